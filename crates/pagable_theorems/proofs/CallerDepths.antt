@@ -9,27 +9,25 @@ use Rattle.pagable_pager_spec.specs.{
   Order.{LeadsDown, ReadsTooDeep, goes-down, is-there},
   Rightness.IsMetFailure,
   WorkerClaims.{IsFormlessTask, IsTooDeepTask},
-  World.{SameShelf, of_key, type_at},
+  World.{SameShelf, type_at},
 }
 use Rattle.pagable_theorems.proofs.{
-  CallEffects.begins-key,
-  CallerFailures.{goes-open, load-begins, load_of},
+  CallerFailures.{goes-open, key-begins, load-begins, load_of, load_of_key},
   DepthBounds.task-is-fine,
-  HandlesKept.{Goes, updated-at},
-  LoadResults.{Under, at-answer, caller-feels, stepped, under},
+  LoadResults.{Under, at-answer, caller-feels, stepped},
   NewClaims.first-met,
   Operations.{Ended, Stands, Stays, ground, item-walks},
   RefusalCauses.{begins-refused, fails-deep, pins-refused},
   SlotsGrow.{first-stands, some-none},
   Words.{Blob, Err, Error, HandleNumber, HandleRow, HoldsSettled, IsLawful, IsPagerWhole, LoadAnswer, None, OpenLoad, Option, Owner, PagerStandsFor},
-  Words.{PagerState, Reading, Result, Seen, Slot, Some, Task, Tree, Types, WorkerAnswer, ap, arith, basics, false, inl, inr, key_at, nat_eq, nothing_felt},
-  Words.{of_item, refl, row_at, subst, sym, updated, ℕ, [], ◌+◌, ◌∙◌, ◌≡◌, ◌⊎◌},
+  Words.{PagerState, Reading, Result, Seen, Slot, Some, Task, Tree, Types, WorkerAnswer, ap, arith, basics, false, inl, inr, key_at, nat_eq, of_item, refl},
+  Words.{row_at, subst, sym, ℕ, [], ◌∙◌, ◌≡◌, ◌⊎◌},
 }
 use Rattle.pagable_theorems.specs.{
   CallerFailures.{FailsAsDeepAlone, ItemKeyIsShallow, ItemReportsDepth, PinIsDeep, ReadIsDeep},
   CallerLaws.{PinAsksWell, ReadAsksWell},
-  RefusalLaws.IsOfPin,
   PageOutLaws.ItemAsksWell,
+  RefusalLaws.IsOfPin,
   TreeSteps.KeepsStored,
 }
 
@@ -159,14 +157,9 @@ module _ {N B W : Type 0} (E : Type 0) (m : Seen N B W) (s : PagerState N E) (tr
       → r ≡ Err Error.TooDeep → ReadsTooDeep m.values.types s'.core.stored t key
   read-deep (reading-is-refused e s' c) asks is = absurd (elim c.step.refused.why [ inl spent ↦ (grind basics) | inr memory ↦ (cc) ])
   read-deep {key} {t} (reading-fails e l mid s' starts run) asks is =
-      let b = starts.step.begins in
+      let b = key-begins m.values lawful s trees well settled stands t starts in
       let same : LoadAnswer.Refused e ≡ LoadAnswer.Refused Error.TooDeep = cc in
-      let load : OpenLoad = record { owner = Owner.Caller; key = key; root = of_key } in
-      let goes : Goes nothing_felt s.core mid.core = (begins-key {lists = false} {Asks = Unit {0}} {Leaves = Unit {0}} _ starts.step).goes in
-      let u = under lawful s mid trees well settled stands goes starts.moves starts.whole s.core l t key of_key b.1.above b.2 in
-      let open_load : mid.core.loads l.0 ≡ Some load =
-      b.2.loads l.0 ∙ ap (updated (s.core.last.load + 1) (Some load) s.core.loads) b.1.above ∙ updated-at (s.core.last.load + 1) (Some load) s.core.loads in
-      fails-so E m lawful load run asks trees u open_load same
+      fails-so E m lawful (load_of_key key) run asks trees b.under b.open_load same
   read-deep (load-reads x l mid s' starts run) asks is = absurd (cc)
 
 pub pin_is_deep : {N B W : Type 0} (E : Type 0) (m : Seen N B W) → PinIsDeep E m

@@ -1,9 +1,9 @@
--- A pin of what a page-out published fails by chance alone: what was published stays stored as a form of its node's tree, whatever operations follow, and a
--- load that nobody interrupts keeps its handles.
+-- A pin or a read of what a page-out published fails by chance alone: what was published stays stored as a form of its node's tree, whatever operations follow,
+-- and a load that nobody interrupts keeps its handles.
 use Rattle.pagable_pager_spec.specs.{
-  Access.{AccessState, EntryRun, ItemRun, ListRun, LoadAsksWell, LoadRun, LoadStarts, MakesCall, PinRun, ReadRun, WalkStep, WorkerRun, entry-is-refused},
-  Access.{entry-is-walked, fails, item-is-walked, load-ends, load-fails, load-goes-on, load-is-refused, load-pins, load-reads, no-entry-worker, no-more},
-  Access.{no-worker, pages, pin-is-refused, pins-at-once, reading-fails, reading-is-refused, skips, worker-ends, worker-goes-on},
+  Access.{AccessState, EntryRun, ItemRun, KeyStarts, ListRun, LoadAsksWell, LoadRun, LoadStarts, MakesCall, PinRun, ReadRun, WalkStep, WorkerRun},
+  Access.{entry-is-refused, entry-is-walked, fails, item-is-walked, load-ends, load-fails, load-goes-on, load-is-refused, load-pins, load-reads},
+  Access.{no-entry-worker, no-more, no-worker, pages, pin-is-refused, pins-at-once, reading-fails, reading-is-refused, skips, worker-ends, worker-goes-on},
   Calls.with_handle,
   Events.{CallDoes, no_shelf},
   Kinds.is_loose,
@@ -12,16 +12,16 @@ use Rattle.pagable_pager_spec.specs.{
   Refusals.{Owns, handle_fault},
   WorkerClaims.IsOfChance,
   Workers.fresh,
-  World.{SameShelf, type_at},
+  World.{SameShelf, of_key, type_at},
   declared.pinning.Pinning.Pinning,
 }
 use Rattle.pagable_theorems.proofs.{
-  CallEffects.{begin-goes, calls-go},
+  CallEffects.{begin-goes, begins-key, calls-go},
   Callers.operation-stays,
   Effects.with-one,
   EventEffects.{ends-quiet, walk-goes},
-  HandlesKept.{alike, stands-alike, stands-whole, updated-at},
-  LoadFaults.{OfPagedOut, Only, cause, only-earlier, only-if, only-refused, only-where},
+  HandlesKept.{Goes, alike, stands-alike, stands-whole, updated-at},
+  LoadFaults.{IsOfType, OfPagedOut, Only, cause, only-earlier, only-if, only-refused, only-where},
   LoadProgress.row-held,
   LoadResults.{After, Under, begun, caller-feels, stepped, under},
   Moments.same-shelf,
@@ -31,20 +31,21 @@ use Rattle.pagable_theorems.proofs.{
   Trees.same_some,
   UninterruptedLoads.{LoadReady, goes-ready, only-chance},
   Words.{Action, Alike, Beginning, Blob, Call, Core, Err, Error, Event, Frame, HandleNumber, HandleRow, HoldsSettled, Identity, IsLawful, IsPagerWhole},
-  Words.{IsPublished, KeepsOpen, List, LoadAnswer, Mode, NodeNumber, None, Ok, OpenLoad, Option, OptionalDataKey, Owner, PagerStandsFor, PagerState, Reading},
-  Words.{Reply, Result, Seen, Shelf, Some, Todo, Tree, Values, WorkerAnswer, WorkerState, answer_after, ap, basics, inl, inr, key_at, of_cell, refl, row_at},
-  Words.{subst, sym, updated, ℕ, [], ◌+◌, ◌∙◌, ◌≡◌, ◌⊎◌},
+  Words.{IsPublished, KeepsOpen, List, LoadAnswer, LoadNumber, Mode, NodeNumber, None, Ok, OpenLoad, Option, OptionalDataKey, Owner, PagerStandsFor},
+  Words.{PagerState, Reading, Reply, Result, Seen, Shelf, Some, Todo, Tree, Values, WorkerAnswer, WorkerState, answer_after, ap, basics, false, inl, inr},
+  Words.{key_at, nothing_felt, of_cell, refl, row_at, subst, sym, type_of, updated, ℕ, [], ◌+◌, ◌∙◌, ◌≡◌, ◌⊎◌},
 }
 use Rattle.pagable_theorems.specs.{
-  CallerFailures.{EntryPublishes, HavePublished, ListPublishes, PagedOutIsPinned, Publishes},
-  CallerLaws.{AskWell, Operation, OperationAsksWell, Operations, PinAsksWell, calls, goes-on, is-done, keeps-nodes, pages-item, pages-list, pins, reads-key},
+  CallerFailures.{EntryPublishes, HavePublished, ListPublishes, PagedOutIsPinned, PublishedIsRead, Publishes},
+  CallerLaws.{AskWell, Operation, OperationAsksWell, Operations, PinAsksWell, ReadAsksWell, calls, goes-on, is-done, keeps-nodes, pages-item, pages-list, pins},
+  CallerLaws.reads-key,
   PageOutLaws.{EntryAsksWell, ItemAsksWell, ListAsksWell},
   TreeSteps.{KeepsStored, SlotsFit},
 }
 
 -- ---- what was stored stays stored, and what a page-out published stays a form of its node's tree
 
-pub stored-then : {a b c : ℕ → Option Blob} → KeepsStored a b → KeepsStored b c → KeepsStored a c
+stored-then : {a b c : ℕ → Option Blob} → KeepsStored a b → KeepsStored b c → KeepsStored a c
 stored-then first second key blob is = second key blob (first key blob is)
 
 -- a page-out has published the key for the identity, on a table that fits the trees
@@ -64,7 +65,7 @@ paged-on {v = v} after stored p = record {
 }
 
 module _ {N E : Type 0} (v : Values N) where
-  pub load-stored : {reading : Reading} {s s' : PagerState N E} {answer : LoadAnswer N} → LoadRun v Owner.Caller reading s answer s'
+  load-stored : {reading : Reading} {s s' : PagerState N E} {answer : LoadAnswer N} → LoadRun v Owner.Caller reading s answer s'
       → KeepsStored s.core.stored s'.core.stored
   load-stored (load-ends reading answer s s' step) = (caller-feels step).does.goes.stored
   load-stored (load-goes-on reading frames answer s mid s' step more) = stored-then (caller-feels step).does.goes.stored (load-stored more)
@@ -267,13 +268,12 @@ module _ {N E : Type 0} (v : Values N) (lawful : IsLawful v) (s : PagerState N E
             (stands-whole well.whole.handles h.0 row g.1.live))).live;
       }
 
--- the caller's load of a cell whose key was published
-module _ {N E : Type 0} (v : Values N) (lawful : IsLawful v) (load : OpenLoad) (own : load.owner ≡ Owner.Caller) (node : NodeNumber) (h : HandleNumber)
-    (i : Identity) where
+-- the caller's load of a key that was published, its own or that of its cell
+module _ {N E : Type 0} (v : Values N) (lawful : IsLawful v) (load : OpenLoad) (own : load.owner ≡ Owner.Caller) (i : Identity) where
   record Loading (s : PagerState N E) (trees : ℕ → Tree) (reading : Reading) : Type 0 where
     under : Under v s trees load.key reading
     open_load : s.core.loads reading.load.0 ≡ Some load
-    root : load.root ≡ of_cell node reading.node_type h
+    root : IsOfType load.root reading.node_type
     ready : LoadReady s.core reading.load load reading.frames
     paged : PagedOut v s trees i load.key
     typed : (trees i.node.0).type ≡ reading.node_type
@@ -290,8 +290,6 @@ module _ {N E : Type 0} (v : Values N) (lawful : IsLawful v) (load : OpenLoad) (
         height = l.paged.height;
         known = l.paged.known;
         typed = l.typed;
-        node = node;
-        h = h;
         root = l.root;
         open_load = l.open_load;
         may = grind (basics, l.open_load, own);
@@ -343,7 +341,7 @@ module _ {N E : Type 0} (v : Values N) (lawful : IsLawful v) {s : PagerState N E
         live = λ frame r among got. absurd (cc (among.1));
         once = tt;
       } in
-      let l : Loading v lawful (load_of h b.row b.t b.key) refl b.row.node h i mid trees (fresh reading.load b.t) = record {
+      let l : Loading v lawful (load_of h b.row b.t b.key) refl i mid trees (fresh reading.load b.t) = record {
         under = b.under;
         open_load = b.open_load;
         root = refl;
@@ -351,8 +349,8 @@ module _ {N E : Type 0} (v : Values N) (lawful : IsLawful v) {s : PagerState N E
         paged = paged-on b.after b.stored (subst (λ k. PagedOut v s trees i k) (sym keys) paged);
         typed = ap (λ (n : NodeNumber). (trees n.0).type) nodes ∙ typed;
       } in
-      fails-by-chance v lawful (load_of h b.row b.t b.key) refl b.row.node h i run asks trees
-      (subst (λ (z : Reading). Loading v lawful (load_of h b.row b.t b.key) refl b.row.node h i mid trees z) (sym b.new) l) e refl
+      fails-by-chance v lawful (load_of h b.row b.t b.key) refl i run asks trees
+      (subst (λ (z : Reading). Loading v lawful (load_of h b.row b.t b.key) refl i mid trees z) (sym b.new) l) e refl
 
   pin-by-chance : {e : Error} {s' : PagerState N E} (run : PinRun v s h (Err e) s') → PinAsksWell run → IsOfChance e
   pin-by-chance (pin-is-refused e s' c) asks = only-refused {P = IsOfChance} e c.step.refused
@@ -362,7 +360,59 @@ module _ {N E : Type 0} (v : Values N) (lawful : IsLawful v) {s : PagerState N E
       (only-where _ _ (only-earlier _ _ (only-if IsOfChance _ Error.NumbersSpent tt) (only-if IsOfChance _ Error.NumbersSpent tt)))) tt
   pin-by-chance (load-fails e reading mid s' starts run) asks = loading starts run asks
 
+-- ---- a read
+
+abbrev pub load_of_key : ℕ → OpenLoad
+load_of_key key = record { owner = Owner.Caller; key = key; root = of_key }
+
+-- a load of a key has begun
+pub record KeyBegun {N E : Type 0} (v : Values N) (s : PagerState N E) (trees : ℕ → Tree) (key t : ℕ) (l : LoadNumber)
+    (mid : PagerState N E) : Type 0 where
+  pub open_load : mid.core.loads l.0 ≡ Some (load_of_key key)
+  pub under : Under v mid trees key (fresh l t)
+  pub after : After v s trees mid trees
+  pub stored : KeepsStored s.core.stored mid.core.stored
+
+module _ {N E : Type 0} (v : Values N) (lawful : IsLawful v) (s : PagerState N E) (trees : ℕ → Tree) (well : IsPagerWhole v s) (settled : HoldsSettled v s)
+    (stands : PagerStandsFor v s trees) where
+  pub key-begins : {key : ℕ} {l : LoadNumber} {mid : PagerState N E} (t : ℕ) → KeyStarts v s key l mid → KeyBegun v s trees key t l mid
+  key-begins {key} {l} {mid} t starts =
+      let b = starts.step.begins in let next = b.1.above in let a = b.2 in let load = load_of_key key in
+      let goes : Goes nothing_felt s.core mid.core = (begins-key {lists = false} {Asks = Unit {0}} {Leaves = Unit {0}} _ starts.step).goes in
+      record {
+        open_load = a.loads l.0 ∙ ap (updated (s.core.last.load + 1) (Some load) s.core.loads) next
+            ∙ updated-at (s.core.last.load + 1) (Some load) s.core.loads;
+        under = under lawful s mid trees well settled stands goes starts.moves starts.whole s.core l t key of_key next a;
+        after = begun lawful s mid trees well settled stands goes starts.moves starts.whole;
+        stored = goes.stored;
+      }
+
+module _ {N E : Type 0} (v : Values N) (lawful : IsLawful v) {s : PagerState N E} {trees : ℕ → Tree} (at : Stands v s trees) (i : Identity) (key : ℕ)
+    (paged : PagedOut v s trees i key) where
+  read-by-chance : {t : ℕ} {r : Result N Error} {s' : PagerState N E} (run : ReadRun v s key t r s') → ReadAsksWell run → t ≡ type_of i.kind.0 → (e : Error)
+      → r ≡ Err e → IsOfChance e
+  read-by-chance (reading-is-refused f s' c) asks typed e is =
+      let same : f ≡ e = cc in subst IsOfChance same (only-refused {P = IsOfChance} f c.step.refused (only-if IsOfChance _ Error.NumbersSpent tt) tt)
+  read-by-chance {t} (reading-fails f l mid s' starts run) asks typed e is =
+      let same : f ≡ e = cc in
+      let b = key-begins v lawful s trees at.well at.settled at.stands t starts in
+      let its = (paged.slots i paged.known.slot paged.known.claimed).typed in
+      subst IsOfChance same (fails-by-chance v lawful (load_of_key key) refl i run asks trees (record {
+        under = b.under;
+        open_load = b.open_load;
+        root = tt;
+        ready = record { begun = λ node u q root. absurd (cc); live = λ frame r among got. absurd (cc (among.1)); once = tt };
+        paged = paged-on b.after b.stored paged;
+        typed = its ∙ sym typed;
+      }) f refl)
+  read-by-chance (load-reads x l mid s' starts run) asks typed e is = absurd (cc)
+
 pub paged_out_is_pinned : {N B W : Type 0} (E : Type 0) (m : Seen N B W) → PagedOutIsPinned E m
 paged_out_is_pinned E m s later s' trees h row i key e operations pin well nobody lawful settled stands asks pin_asks owns keyed same published =
     let a = all-leave m lawful operations (record { well = well; nobody = nobody; settled = settled; stands = stands }) asks in
     pin-by-chance m.values lawful a.stays.now h row owns i same key keyed (a.paged i key published) pin pin_asks
+
+pub published_is_read : {N B W : Type 0} (E : Type 0) (m : Seen N B W) → PublishedIsRead E m
+published_is_read E m s later s' trees i key t e operations read well nobody lawful settled stands asks read_asks typed published =
+    let a = all-leave m lawful operations (record { well = well; nobody = nobody; settled = settled; stands = stands }) asks in
+    read-by-chance m.values lawful a.stays.now i key (a.paged i key published) read read_asks typed e refl

@@ -1,7 +1,7 @@
 -- The lemmas by which the laws of `src/` are proved, by file.
 use Rattle.pagable_theorems.proofs.{
   CallerDepths.{item_key_is_shallow, item_reports_depth, pin_is_deep, read_is_deep},
-  CallerFailures.paged_out_is_pinned,
+  CallerFailures.{paged_out_is_pinned, published_is_read},
   Callers.caller_law,
   CascadeWitness.fall_laws,
   Chains.{headline_law, runs_join},
@@ -63,6 +63,7 @@ pub ruleset world_laws = (
   list_law,
   caller_law,
   paged_out_is_pinned,
+  published_is_read,
   item_key_is_shallow,
   item_reports_depth,
   pin_is_deep,

@@ -3,10 +3,11 @@ use Rattle.pagable_pager_spec.specs.{
   Basics.longest_path,
   Events.{LoadSteps, reading_at},
   LoadCalls.{LazyCall, LoadFetchCall, ask_fault, is_known, node_fault},
-  Loads.{Fails, IsDecoded, IsOfKey, LoadDoes, RefusesNode, RefusesRoot, asks, is_broken, need_of, needs_lazy, needs_nested, reads},
-  Refusals.{AreHandlesFull, Refused, earlier, handle_fault, load_fault, reference_fault, refused_if, row_fault, where_so},
+  Loads.{Fails, IsDecoded, LoadDoes, RefusesNode, RefusesRoot, asks, handles_of, is_broken, need_of, needs_lazy, needs_nested, reads},
+  Refusals.{AreHandlesFull, Refused, earlier, handle_fault, load_fault, named_fault, reference_fault, refused_if, row_fault, where_so},
   Rightness.AreKeysOf,
   WorkerClaims.{IsLoadOfPagedOut, IsOfChance},
+  World.{Root, of_key},
   declared.{calls.FetchTarget.FetchTarget, events.LoadReply.LoadReply},
 }
 use Rattle.pagable_theorems.proofs.{
@@ -189,15 +190,22 @@ only-refused {P} e r by memory = elim r.why [ inl is ↦ by e is | inr wanting �
 never : (b : Bool) (f e : Error) → b ≡ false → refused_if b f ≡ Some e → ⊥
 never _ f e is so = cc
 
--- Why it is refused: by chance, by a reference of what was read, or by the handle that began it.
+-- Why it is refused: by chance, by a reference of what was read (as a value's own, or by its handle alone), or by the handle that began it.
 pub data Cause {N : Type 0} (v : Values N) (w : Core) (load : OpenLoad) (reading : Reading) (e : Error) : Type 0 where
   by-chance : IsOfChance e → Cause v w load reading e
   by-references : (frame : Frame) (below : List Frame) (x : N) → reading.frames ≡ frame ∷ below → (decoded : IsDecoded v frame x) → IsForm v frame
       → references_fault w (Owner.Load reading.load) [] (v.references x) ≡ Some e → Cause v w load reading e
+  by-names : (frame : Frame) (below : List Frame) (x : N) → reading.frames ≡ frame ∷ below → (decoded : IsDecoded v frame x) → IsForm v frame
+      → named_fault w (Owner.Load reading.load) [] (handles_of (v.references x)) ≡ Some e → Cause v w load reading e
   by-handle : (node : NodeNumber) (t : ℕ) (h : HandleNumber) → load.root ≡ of_cell node t h → handle_fault w Owner.Caller h any_mode ≡ Some e
       → Cause v w load reading e
 
--- The caller's load of a cell, whose key a page-out has published on a table that fits the trees. What it has read fits them too.
+-- the load is of a key, or of a cell of this type
+abbrev pub IsOfType : Root → ℕ → Type 0
+IsOfType (of_cell node u h) t = u ≡ t
+IsOfType of_key t = Unit {0}
+
+-- The caller's load of a key that a page-out has published, on a table that fits the trees. What it has read fits them too.
 pub record OfPagedOut {N : Type 0} (v : Values N) (w : Core) (trees : ℕ → Tree) (reading : Reading) (load : OpenLoad) : Type 0 where
   pub shelf : Shelf
   pub slots : SlotsFit v (record { stored = w.stored; last = w.last.node; trees = trees }) shelf
@@ -205,9 +213,7 @@ pub record OfPagedOut {N : Type 0} (v : Values N) (w : Core) (trees : ℕ → Tr
   pub height : ℕ
   pub known : IsPublished shelf i load.key height
   pub typed : (trees i.node.0).type ≡ reading.node_type
-  pub node : NodeNumber
-  pub h : HandleNumber
-  pub root : load.root ≡ of_cell node reading.node_type h
+  pub root : IsOfType load.root reading.node_type
   pub open_load : w.loads reading.load.0 ≡ Some load
   pub may : load_fault w Owner.Caller reading.load ≡ None
   pub fits : FramesFit v.types w.stored trees load.key reading.node_type reading.frames
@@ -274,9 +280,13 @@ module _ {N : Type 0} (v : Values N) (lawful : IsLawful v) (w : Core) (trees : �
   of-root mid e r = elim r.refuses [
     | inr (is, handed) ↦
         let same : is.load ≡ load = same_some _ _ (sym is.open_load ∙ o.open_load) in
-        absurd (subst IsOfKey (ap (λ (x : OpenLoad). x.root) same ∙ o.root) is.sort)
-    | inl (is, ended) ↦ only-refused {P = C} e ended.refused.1 (only-earlier _ _ (no-load-fault _) (only-earlier _ _
-        (λ f a. by-chance (grind (basics, o.open_load, o.root, o.fits, either, never, only-if IsOfChance, self-number)))
+        only-earlier {P = C} _ _ (no-load-fault _) (only-earlier _ _ (λ f a. absurd (grind (basics, same, o.open_load, is.sort)))
+        (λ f a. by-names r.reads_root.root [] r.x r.reads_root.frames r.reads_root.decoded
+        (form-of r.reads_root.root [] r.reads_root.frames r.x r.reads_root.decoded) a)) e handed.refused.0
+    | inl (is, ended) ↦
+        let same : is.load ≡ load = same_some _ _ (sym is.open_load ∙ o.open_load) in
+        only-refused {P = C} e ended.refused.1 (only-earlier _ _ (no-load-fault _) (only-earlier _ _
+        (λ f a. by-chance (grind (basics, same, is.sort, o.open_load, o.root, o.fits, either, never, only-if IsOfChance, self-number)))
         (λ f a. by-references r.reads_root.root [] r.x r.reads_root.frames r.reads_root.decoded
         (form-of r.reads_root.root [] r.reads_root.frames r.x r.reads_root.decoded) a)))
         (by-chance tt)
@@ -316,6 +326,11 @@ by-all w owner seen (r ∷ rs) e is = grind (basics, of-reference, by-all w owne
 pub by-handle-row : (w : Core) (me : Owner) (h : HandleNumber) (fits : Mode → Bool) → Only IsOfHandles (handle_fault w me h fits)
 by-handle-row w me h fits e is = grind basics
 
+pub by-all-names : (w : Core) (owner : Owner) (seen : List ℕ) (hs : List HandleNumber) → Only IsOfHandles (named_fault w owner seen hs)
+unfolding named_fault
+by-all-names w owner seen [] e is = absurd (cc)
+by-all-names w owner seen (h ∷ hs) e is = only-earlier {P = IsOfHandles} _ _ (λ f so. grind basics) (by-all-names w owner (h.0 ∷ seen) hs) e is
+
 module _ {N B W E : Type 0} (m : Seen N B W) (lawful : IsLawful m.values) (s s' : MachineState N E) (trees trees' : ℕ → Tree)
     (on : IsGoingOn m.values s trees) where
   -- a load whose key was published, as the machine makes its steps
@@ -338,9 +353,7 @@ module _ {N B W E : Type 0} (m : Seen N B W) (lawful : IsLawful m.values) (s s' 
         known = out.known;
         typed = ap (λ n. (trees n).type) out.of_node
             ∙ (on.stands.pager.loads l.0 load paged.0 paged.1 paged.2 open_load paged.3).typed ∙ sym of-type;
-        node = paged.0;
-        h = paged.2;
-        root = paged.3 ∙ ap (λ t. of_cell paged.0 t paged.2) (sym of-type);
+        root = subst (λ (x : Root). IsOfType x reading.node_type) (sym paged.3) (sym of-type);
         open_load = there;
         may = ap (load_fault s.pager.core Owner.Caller) number ∙ may;
         fits = going.fits load there;
@@ -357,5 +370,5 @@ module _ {N B W E : Type 0} (m : Seen N B W) (lawful : IsLawful m.values) (s s' 
   pub load-faultless : (event : Event N B W) (reply : EventReply N B W) → Happens m (world_of s) event reply (world_of s')
       → LoadOfPagedOutIsFaultless s trees event reply s' trees'
   load-faultless (Event.LoadStep l) (EventReply.LoadMoved (Ok reply)) is = λ load e open_load paged ended.
-      grind (basics, by-all, by-handle-row, load-cause l reply is.moves load e open_load paged ended)
+      grind (basics, by-all, by-all-names, by-handle-row, load-cause l reply is.moves load e open_load paged ended)
   load-faultless event reply is = tt

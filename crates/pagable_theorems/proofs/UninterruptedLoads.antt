@@ -4,7 +4,8 @@ use Rattle.pagable_pager_spec.specs.{
   Calls.{Asked, row_of, with_node},
   Events.{LoadSteps, ReadingsAre, reading_at},
   LoadCalls.BeginCall,
-  Loads.{GoesOn, IsDecoded, LoadDoes, MakesNode, gone_on, with_got},
+  Loads.{GoesOn, IsDecoded, LoadDoes, MakesNode, gone_on, handles_of, with_got},
+  Refusals.named_fault,
   Runs.TakesWell,
   WorkerClaims.{IsLoadOfPagedOut, IsOfChance, LoadIsSound, StandTogether, of_load, turn_of},
   declared.events.LoadReply.LoadReply,
@@ -14,7 +15,7 @@ use Rattle.pagable_theorems.proofs.{
   Decoding.{AreApart, decodes, fine, reads-once},
   Effects.{moved-free, named-among, with-one},
   HandlesKept.{Has, NotValues, Stands, found-number, good, has-alike, low-changed, low-whole, new-handle, stands-alike, stands-fell, stands-whole, updated-at},
-  LoadFaults.{Cause, IsForm, by-chance, by-handle, by-references, load-cause},
+  LoadFaults.{Cause, IsForm, by-chance, by-handle, by-names, by-references, load-cause},
   LoadProgress.{AllGot, Going, all-more, all-new, asked, first-fits, going-of, pushed, row-held},
   ReadingSteps.{cached-rows, reading-number, reading-open, reading-stands},
   StepBounds.got-typed,
@@ -197,6 +198,13 @@ module _ {N : Type 0} (v : Values N) (lawful : IsLawful v) (w w' : Core) (readin
   ])
   goes-ready frames (inr (inr (inr (inr g)))) = subst (λ fs. LoadReady w' l load fs) (sym g.goes) (node-ready frames g)
 
+-- where references have no fault, their handles have none
+none-named : (w : Core) (owner : Owner) (seen : List ℕ) (rs : List ArcRef) → references_fault w owner seen rs ≡ None
+    → named_fault w owner seen (handles_of rs) ≡ None
+unfolding references_fault named_fault
+none-named w owner seen [] is = refl
+none-named w owner seen (r ∷ rs) is = grind (basics, none-named w owner (r.handle.0 ∷ seen) rs)
+
 -- a load that is ready has no fault in its references, nor in the handle that began it: so it fails by chance alone
 module _ {N E : Type 0} (v : Values N) (lawful : IsLawful v) (s : PagerState N E) (trees : ℕ → Tree) (stands : PagerStandsFor v s trees) (reading : Reading)
     (load : OpenLoad) (types : TypesAreRead v reading) (ready : LoadReady s.core reading.load load reading.frames) (going : Going v s trees reading)
@@ -227,6 +235,8 @@ module _ {N E : Type 0} (v : Values N) (lawful : IsLawful v) (s : PagerState N E
   pub only-chance : (e : Error) → Cause v s.core load reading e → IsOfChance e
   only-chance e (by-chance chance) = chance
   only-chance e (by-references frame below y frames decoded form fault) = absurd (cc (references-fine frame below y frames decoded form))
+  only-chance e (by-names frame below y frames decoded form fault) =
+      absurd (cc (none-named s.core (Owner.Load reading.load) [] (v.references y) (references-fine frame below y frames decoded form)))
   only-chance e (by-handle node t h root fault) = absurd (grind (basics, ready.begun node t h root))
 
 begin-turn : {N B W : Type 0} (n : ℕ) (event : Event N B W) (reply : EventReply N B W) → IsBeginOf n event reply → turn_of event reply ≡ of_load n

@@ -1,9 +1,9 @@
--- The laws of failures of whole operations on a pager: a pin of what was paged out fails only by chance; and which
--- page-outs, pins and reads fail as too deep.
+-- The laws of failures of whole operations on a pager: a pin or a read of what was paged out fails only by chance; and
+-- which page-outs, pins and reads fail as too deep.
 use Rattle.pagable_pager_spec.specs.{
   Access.{AccessState, EntryRun, ItemRun, LeadsToTrees, ListRun, PinRun, ReadRun, entry-is-walked, fails},
   Access.{item-is-walked, no-more, no-worker, pages, skips},
-  Basics.{Among, Error, HandleNumber, Identity, OptionalDataKey, Tree},
+  Basics.{Among, Error, HandleNumber, Identity, OptionalDataKey, Tree, type_of},
   Events.no_shelf,
   Kinds.is_loose,
   Order.{MetError, ReadsTooDeep},
@@ -63,6 +63,16 @@ PagedOutIsPinned {N} {B} {W} E m = (s later s' : PagerState N E) (trees : ℕ �
     → PagerStandsFor m.values s trees → AskWell operations → PinAsksWell pin
     → Owns later.core Owner.Caller h is_loose row → key_at later.core row.node.0 ≡ OptionalDataKey.Some key
     → i.node ≡ row.node → HavePublished operations i key
+    → IsOfChance e
+
+-- The law of keys that were published: a read of such a key, as a value of the type for which it was published, fails
+-- only by chance.
+abbrev pub PublishedIsRead : {N B W : Type 0} → (E : Type 0) → Seen N B W → Type 0
+PublishedIsRead {N} {B} {W} E m = (s later s' : PagerState N E) (trees : ℕ → Tree) (i : Identity) (key t : ℕ)
+    (e : Error) (operations : Operations m s later) (read : ReadRun m.values later key t (Err e) s')
+    → IsPagerWhole m.values s → NobodyWorks s.core → IsLawful m.values → HoldsSettled m.values s
+    → PagerStandsFor m.values s trees → AskWell operations → ReadAsksWell read
+    → t ≡ type_of i.kind.0 → HavePublished operations i key
     → IsOfChance e
 
 -- ---- paths that are too long, and values without a form

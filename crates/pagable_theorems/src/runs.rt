@@ -11,7 +11,7 @@ ghost use Rattle.pagable_pager_spec.specs.{
   World.{Frame, Seen},
 };
 ghost use Rattle.pagable_theorems.specs.{
-  CallerFailures.{ItemKeyIsShallow, ItemReportsDepth, PagedOutIsPinned, PinIsDeep, ReadIsDeep},
+  CallerFailures.{ItemKeyIsShallow, ItemReportsDepth, PagedOutIsPinned, PinIsDeep, PublishedIsRead, ReadIsDeep},
   CallerLaws.{CallerLaw, PinnedAgainLaw},
   DepthLaws.{ClaimIsDeep, DepthIsHeight, HoldsAlong, LoadIsDeep, LoadOfPagedOutIsFaultless, UninterruptedLoadsAreSound},
   DepthLaws.WorkerReportsDepth,
@@ -177,6 +177,7 @@ pub fn caller_laws<N: SeenAs<B, W>, B, W, E>()
 ///   that a page-out of an item or of the list published for the cell's node, a pin by the handle
 ///   fails only if numbers or memory run out, or if the storage or the type's own reader fails. So
 ///   it is whatever the page-out returned, and whatever operations follow it.
+/// - A read of such a key, as a value of the type for which it was published, fails only so too.
 /// - No page-out of an item on a new table returns a key if a path that is too long, or a value
 ///   without a form (one that can't be encoded), is below the item.
 /// - Such a page-out fails with TooDeep, if none of its steps fails otherwise.
@@ -186,6 +187,7 @@ pub fn caller_laws<N: SeenAs<B, W>, B, W, E>()
 /// - A read of a key fails with TooDeep only if reading the key reaches such a blob.
 pub fn caller_failure_laws<N: SeenAs<B, W>, B, W, E>()
     ensures paged_out_is_pinned { PagedOutIsPinned E N.seen }
+    ensures published_is_read { PublishedIsRead E N.seen }
     ensures keys_are_shallow { ItemKeyIsShallow E N.seen }
     ensures items_report_depth { ItemReportsDepth E N.seen }
     ensures deep_pins_have_a_cause { PinIsDeep E N.seen }
