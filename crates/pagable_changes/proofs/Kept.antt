@@ -517,6 +517,7 @@ changed_law E v s s' h r well lawful = record {
               nodes = w.after.nodes;
               handles = w.after.handles;
               rows = w.after.rows;
+              stored = w.kept;
             };
       };
 }

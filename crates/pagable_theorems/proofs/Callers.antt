@@ -112,7 +112,7 @@ module _ {N E B W : Type 0} (m : Seen N B W) (lawful : IsLawful m.values) where
     now = record { well = left.well; nobody = left.nobody; settled = left.settled; stands = after.stands };
   }
 
-  pin-stays : {s s' : PagerState N E} {trees : ℕ → Tree} {h : HandleNumber} {r : Result HandleNumber Error} (run : PinRun m.values s h r s')
+  pub pin-stays : {s s' : PagerState N E} {trees : ℕ → Tree} {h : HandleNumber} {r : Result HandleNumber Error} (run : PinRun m.values s h r s')
       → Stands m.values s trees → PinAsksWell run
       → (a : Stays m.values s trees s') × PinIsRight m.values s' a.trees' r
   pin-stays {h = h} (pins-at-once k s' c) at asks =
@@ -130,7 +130,7 @@ module _ {N E B W : Type 0} (m : Seen N B W) (lawful : IsLawful m.values) where
       let r = pin-after m.values s mid s' h reading (LoadAnswer.Refused e) run at.well starts asks lawful at.settled trees at.stands in
       (stays-so r.1 (load-left run asks (call-nobody m begun tt at.nobody)), tt)
 
-  read-stays : {s s' : PagerState N E} {trees : ℕ → Tree} {key t : ℕ} {r : Result N Error} (run : ReadRun m.values s key t r s') → Stands m.values s trees
+  pub read-stays : {s s' : PagerState N E} {trees : ℕ → Tree} {key t : ℕ} {r : Result N Error} (run : ReadRun m.values s key t r s') → Stands m.values s trees
       → ReadAsksWell run
       → Stays m.values s trees s' × ReadingIsRight m.values s' key r
   read-stays {key = key} (reading-is-refused e s' c) at asks = ((plain-stays m lawful (Call.LoadKey key) (Reply.Begun (Err e)) at c c.step tt tt).0, tt)
@@ -143,7 +143,7 @@ module _ {N E B W : Type 0} (m : Seen N B W) (lawful : IsLawful m.values) where
       let r = read-after m.values s mid s' key t l (LoadAnswer.Refused e) run at.well starts asks lawful at.settled trees at.stands in
       (stays-so r.1 (load-left run asks (call-nobody m begun tt at.nobody)), tt)
 
-  operation-stays : {s s' : PagerState N E} {trees : ℕ → Tree} (one : Operation m s s') → Stands m.values s trees → OperationAsksWell trees one
+  pub operation-stays : {s s' : PagerState N E} {trees : ℕ → Tree} (one : Operation m s s') → Stands m.values s trees → OperationAsksWell trees one
       → (a : Stays m.values s trees s') × OperationIsRight trees a.trees' one
   operation-stays (calls call reply s s' c) at asks = call-stays m lawful call reply at c asks.0 asks.1 asks.2
   operation-stays (pins h r s s' run) at asks = pin-stays run at asks

@@ -27,7 +27,7 @@ use Rattle.pagable_theorems.proofs.{
 }
 use Rattle.pagable_theorems.specs.{
   DepthLaws.{ClaimIsDeep, MetDepthAlone, WaitsForAsker, WorkerReportsDepth},
-  TreeSteps.{AllLow, BlobStands, Expects, Ground, IsAttained, IsDone, Waits, Walks, WroteTree, followed-leads, ground_of, pair-leads, place_over},
+  TreeSteps.{AllLow, BlobStands, Expects, Ground, IsAttained, IsDone, SlotsFit, Waits, Walks, WroteTree, followed-leads, ground_of, pair-leads, place_over},
   TreeSteps.{reference-leads, variant-leads},
 }
 use Rattle.pagable_value_spec.specs.{Height.{deepest_path, height}, Merkle.TreeForm, Writing.kind_of_arc}
@@ -78,23 +78,23 @@ climbs : (e : Bool) (place h d top deep : ℕ) → (if e then h + 1 else 0) ≤ 
     → longest_path < max (place + top) deep
 climbs x0 place h d top deep le few within long = grind basics
 
-module _ {N E : Type 0} (v : Values N) (s : MachineState N E) (trees : ℕ → Tree) (fit : WorkFits v s trees) (t : ℕ) where
-  abbrev shelf : Shelf
-  shelf = s.work.shelves t
+module _ {N : Type 0} (v : Values N) (g : Ground) (shelf : Shelf) (fit : SlotsFit v g shelf) where
+  abbrev trees : ℕ → Tree
+  trees = g.trees
 
   -- what was written of an identity whose key is known, under which it stands
   pub record Known (i : Identity) (key height : ℕ) : Type 0 where
     pub written : Written
     pub typed : (trees i.node.0).type ≡ type_of i.kind.0
-    pub stands : BlobStands v (ground_of s trees) shelf i.node.0 written key height
+    pub stands : BlobStands v g shelf i.node.0 written key height
 
   pub known : (i : Identity) (key height : ℕ) → IsPublished shelf i key height → Known i key height
-  known i key height p = let f = fit.slots t i p.slot p.claimed in let b =
+  known i key height p = let f = fit i p.slot p.claimed in let b =
       f.publishes key height p.known in record { written = b.0; typed = f.typed; stands = b.2 }
 
   -- a height that references add is no more than that of the tree
   attained-height : (n : ℕ) (i : Identity) (h : ℕ) → size (trees i.node.0).meaning ≤ n → (written : Written)
-      → WroteTree v.types (ground_of s trees) i.node.0 written
+      → WroteTree v.types g i.node.0 written
       → IsAttained shelf h written.references → h ≤ height (trees i.node.0).meaning
   attained-height n i h few written w (inl is) = omega arith
   attained-height zero i h few written w (inr a) = absurd (omega (arith, part-of w a.r a.among))
@@ -110,7 +110,7 @@ module _ {N E : Type 0} (v : Values N) (s : MachineState N E) (trees : ℕ → T
   unfolding Waits
   leads-down n task r (to_finish o ∷ below) (more, e) (known, attained, place, reach, expects, waits) (stands, apart, all) long =
       let claim = stands.1 in
-      let f = fit.slots t (identity_of o.reference) claim.slot claim.claimed in
+      let f = fit (identity_of o.reference) claim.slot claim.claimed in
       let part = part-of (f.writes o.written.references claim.written_so).1 r (next-among shelf o.written.references o.keys r more e) in
       let m = (trees r.node.0).meaning in
       let above_it = (trees o.reference.node.0).meaning in
@@ -129,7 +129,7 @@ module _ {N E : Type 0} (v : Values N) (s : MachineState N E) (trees : ℕ → T
   unfolding Waits
   not-below n task q r (to_finish o ∷ below) few (more, e) (known, attained, place, reach, expects, waits) (stands, apart, all) is =
       let claim = stands.1 in
-      let f = fit.slots t (identity_of o.reference) claim.slot claim.claimed in
+      let f = fit (identity_of o.reference) claim.slot claim.claimed in
       let part = part-of (f.writes o.written.references claim.written_so).1 r (next-among shelf o.written.references o.keys r more e) in
       elim (or_cases (is_identity q (identity_of o.reference)) (is_open_in q below) is) [
         | inl same ↦ absurd (omega (arith, ap (λ (j : Identity). size (trees j.node.0).meaning) (is-same q (identity_of o.reference) same)))
@@ -217,7 +217,7 @@ module _ {N E : Type 0} (v : Values N) (s : MachineState N E) (trees : ℕ → T
   has-forms i key height p (inr (u, reach, formless)) = let k = known i key height p in below-has-form k reach k.stands.wrote.follows refl formless
 
   -- a task that has come to a key leads down no path that is too long, and to no value that has no form
-  task-is-fine : (task : Task) (key : ℕ) → IsDone v shelf task key → (¬ IsTooDeepTask trees task) × (¬ IsFormlessTask v.types trees task)
+  pub task-is-fine : (task : Task) (key : ℕ) → IsDone v shelf task key → (¬ IsTooDeepTask trees task) × (¬ IsFormlessTask v.types trees task)
   task-is-fine (of_item written) key (keys, each, is, lows) = (
     λ (r, among, long). let l = lows r among in grind (basics, shallow-tree (identity_of r) l.key l.below l.known),
     λ (r, among, formless). let p = known-of shelf written.references keys each r among in has-forms (identity_of r) p.0 p.1.0 p.1.1 formless,
@@ -232,7 +232,7 @@ module _ {N B W E : Type 0} (m : Seen N B W) (s s' : MachineState N E) (trees tr
       let w = is.moves in
       let a = answered m n.0 (ground_of s trees) w.walking.task (site_of (world_of s) w.walking) w.after w.walking.todo reply.action w.does.does
       (fit.walks n.0 w.walking w.at) key (sym w.answers ∙ e) in
-      grind (basics, same_some, task-is-fine m.values s trees fit w.walking.table w.walking.task key a.0)
+      grind (basics, same_some, task-is-fine m.values (ground_of s trees) (s.work.shelves w.walking.table) (fit.slots w.walking.table) w.walking.task key a.0)
   key-is-shallow event reply is = tt
 
   -- what a worker answers that leads down so, and met no other refusal
@@ -265,7 +265,8 @@ module _ {N B W E : Type 0} (m : Seen N B W) (s s' : MachineState N E) (trees tr
         → Walks m.values (ground_of s trees) site.shelf walking.task todo → IsTooDeepTask trees walking.task ⊎ WaitsForAsker site.shelf n i
     of-claim after (to_start r place ∷ below) i (is, c) (stands, apart, all) covers (at, (expects, waits)) =
         subst (λ (j : Identity). IsTooDeepTask trees walking.task ⊎ WaitsForAsker site.shelf n j) (sym is)
-        (claim-deep m.values s trees fit walking.table n walking.task s.pager.core walking.todo r place below after c expects waits all covers at)
+        (claim-deep m.values (ground_of s trees) site.shelf (fit.slots walking.table) n walking.task s.pager.core walking.todo r place below after c expects
+        waits all covers at)
     of-claim after todo i does all covers walks = absurd does
 
   pub claim-is-deep : (event : Event N B W) (reply : EventReply N B W) → Happens m (world_of s) event reply (world_of s')

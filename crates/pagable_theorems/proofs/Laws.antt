@@ -1,5 +1,7 @@
 -- The lemmas by which the laws of `src/` are proved, by file.
 use Rattle.pagable_theorems.proofs.{
+  CallerDepths.{item_key_is_shallow, item_reports_depth, pin_is_deep, read_is_deep},
+  CallerFailures.{paged_out_is_pinned, published_is_read},
   Callers.caller_law,
   CascadeWitness.fall_laws,
   Chains.{headline_law, runs_join},
@@ -60,6 +62,12 @@ pub ruleset world_laws = (
   item_law,
   list_law,
   caller_law,
+  paged_out_is_pinned,
+  published_is_read,
+  item_key_is_shallow,
+  item_reports_depth,
+  pin_is_deep,
+  read_is_deep,
   held_law,
   pinned_law,
   held_by_callers_law,

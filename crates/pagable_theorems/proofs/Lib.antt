@@ -31,6 +31,8 @@ mod LoadFaults
 mod RefusalCauses
 mod RefusalEffects
 mod UninterruptedLoads
+mod CallerFailures
+mod CallerDepths
 mod Heights
 pub mod ValueRows
 pub mod ValuesOwned

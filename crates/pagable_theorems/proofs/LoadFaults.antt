@@ -3,26 +3,27 @@ use Rattle.pagable_pager_spec.specs.{
   Basics.longest_path,
   Events.{LoadSteps, reading_at},
   LoadCalls.{LazyCall, LoadFetchCall, ask_fault, is_known, node_fault},
-  Loads.{Fails, IsDecoded, IsOfKey, LoadDoes, RefusesNode, RefusesRoot, asks, is_broken, need_of, needs_lazy, needs_nested, reads},
-  Refusals.{AreHandlesFull, Refused, earlier, handle_fault, load_fault, reference_fault, refused_if, row_fault, where_so},
+  Loads.{Fails, IsDecoded, LoadDoes, RefusesNode, RefusesRoot, asks, handles_of, is_broken, need_of, needs_lazy, needs_nested, reads},
+  Refusals.{AreHandlesFull, Refused, earlier, handle_fault, load_fault, named_fault, reference_fault, refused_if, row_fault, where_so},
   Rightness.AreKeysOf,
-  WorkerClaims.{IsLoadOfPagedOut, IsOfChance, IsPagedOutAs},
+  WorkerClaims.{IsLoadOfPagedOut, IsOfChance},
+  World.{Root, of_key},
   declared.{calls.FetchTarget.FetchTarget, events.LoadReply.LoadReply},
 }
 use Rattle.pagable_theorems.proofs.{
   Chains.IsGoingOn,
   Decoding.{Ahead, FramesAsked, GotAsked, IsFormOf, all-done, at-place, comes-to, kinds_of, one-left},
   FormsOfTrees.known-of,
-  LoadProgress.{Going, asked, eager-nested, going-of},
+  LoadProgress.{asked, eager-nested, going-of},
   ReadingSteps.{reading-number, reading-open, reading-stands},
   TreeProgress.adopted-over,
   Trees.{same_some, self-number},
   Words.{ArcRef, Blob, Bool, Core, Err, Error, Event, EventReply, Frame, FramesFit, HandleNumber, HandleRow, Happens, Identity, IsLawful, IsPublished},
   Words.{IsReadableType, Kind, List, LoadAnswer, LoadNumber, MachineState, Meaning, Mode, NodeNumber, None, Ok, OpenLoad, Option, Owner, Reading, Seen, Shelf},
-  Words.{Some, Tree, Values, WorkFits, above, any_mode, ap, arith, basics, blob_of, false, identity_of, inl, inr, is_eager, length, next_in, not, of_cell},
+  Words.{Some, Tree, Values, above, any_mode, ap, arith, basics, blob_of, false, identity_of, inl, inr, is_eager, length, next_in, not, of_cell},
   Words.{references_fault, slice_get, subst, sym, true, type_of, world_of, ℕ, [], ◌+◌, ◌==◌, ◌∙◌, ◌∷◌, ◌≡◌, ◌≤◌, ◌⊎◌},
 }
-use Rattle.pagable_theorems.specs.{DepthLaws.{IsOfHandles, LoadOfPagedOutIsFaultless}, TreeSteps.{AllLow, Needs}}
+use Rattle.pagable_theorems.specs.{DepthLaws.{IsOfHandles, LoadOfPagedOutIsFaultless}, TreeSteps.{AllLow, Ground, Needs, SlotsFit}}
 
 -- ---- what a load reads of a key that a page-out has published: each blob is a form of a tree, asks for references whose keys are known, and lies within the
 -- path's limit
@@ -40,12 +41,12 @@ as-many-keys shelf x1 x2 all = grind basics
 above-eager : (kind h limit : ℕ) → is_eager kind ≡ true → above kind h ≤ limit → h + 1 ≤ limit
 above-eager kind h limit is le = grind basics
 
-module _ {N E : Type 0} (v : Values N) (s : MachineState N E) (trees : ℕ → Tree) (fit : WorkFits v s trees) (table : ℕ) where
-  abbrev shelf : Shelf
-  shelf = s.work.shelves table
-
+module _ {N : Type 0} (v : Values N) (g : Ground) (shelf : Shelf) (fit : SlotsFit v g shelf) where
   abbrev stored : ℕ → Option Blob
-  stored = s.pager.core.stored
+  stored = g.stored
+
+  abbrev trees : ℕ → Tree
+  trees = g.trees
 
   -- the blob is a form of a tree over references whose keys are known, and whose heights are within this one
   record IsKnown (frame : Frame) (height : ℕ) : Type 0 where
@@ -57,7 +58,7 @@ module _ {N E : Type 0} (v : Values N) (s : MachineState N E) (trees : ℕ → T
   known-frame : (frame : Frame) (i : Identity) (height : ℕ) → IsPublished shelf i frame.key height → frame.node_type ≡ (trees i.node.0).type → stored frame.key
       ≡ Some frame.blob → IsKnown frame height
   known-frame frame i height p typed is =
-      let f = fit.slots table i p.slot p.claimed in let b = f.publishes frame.key height p.known in
+      let f = fit i p.slot p.claimed in let b = f.publishes frame.key height p.known in
       let written = b.0 in let w = b.2.wrote in
       let there : v.types.nodes frame.node_type ≡ Some w.shape = ap v.types.nodes typed ∙ w.is in
       let same : blob_of written.bytes b.2.keys ≡ frame.blob = same_some _ _ (sym b.2.is_stored ∙ is) in
@@ -119,7 +120,7 @@ module _ {N E : Type 0} (v : Values N) (s : MachineState N E) (trees : ℕ → T
         let (height, known, left) = top-known under rest more more_asked in
         let a = asked-known under height known (comes-to v.types under.node_type under.blob known.refs known.form (first-asked under rest more_asked))
         frame.kind frame.key next in
-        let f = fit.slots table (identity_of a.r) a.known.slot a.known.claimed in
+        let f = fit (identity_of a.r) a.known.slot a.known.claimed in
         let right : frame.node_type ≡ (trees a.r.node.0).type = of_type ∙ ap (λ (x : Kind). type_of x.0) (sym a.of_kind) ∙ sym f.typed in
         let k = known-frame frame (identity_of a.r) a.below a.known right fits.is in
         (a.below, k, omega (arith, above-eager frame.kind.0 a.below height eager a.within, left))
@@ -132,14 +133,14 @@ module _ {N E : Type 0} (v : Values N) (s : MachineState N E) (trees : ℕ → T
         let (height, known, left) = top-known frame below fits got in
         let k = comes-to v.types frame.node_type frame.blob known.refs known.form (first-asked frame below got) in
         let a = asked-known frame height known k kind key (asked below (next_in v.types frame) kind key needs) in
-        let b = (fit.slots table (identity_of a.r) a.known.slot a.known.claimed).publishes key a.below a.known.known in (
+        let b = (fit (identity_of a.r) a.known.slot a.known.claimed).publishes key a.below a.known.known in (
           _,
           b.2.is_stored,
           λ eager. omega (
             arith,
             above-eager kind.0 a.below height eager a.within,
             left,
-            ((fit.slots table i p.slot p.claimed).publishes root_key limit p.known).2.within,
+            ((fit i p.slot p.claimed).publishes root_key limit p.known).2.within,
           ),
         )
     needed x0 fits got kind key x5 = grind basics
@@ -189,126 +190,127 @@ only-refused {P} e r by memory = elim r.why [ inl is ↦ by e is | inr wanting �
 never : (b : Bool) (f e : Error) → b ≡ false → refused_if b f ≡ Some e → ⊥
 never _ f e is so = cc
 
--- Why it is refused: by chance, by a reference of what was read, or by the handle that began it.
+-- Why it is refused: by chance, by a reference of what was read (as a value's own, or by its handle alone), or by the handle that began it.
 pub data Cause {N : Type 0} (v : Values N) (w : Core) (load : OpenLoad) (reading : Reading) (e : Error) : Type 0 where
   by-chance : IsOfChance e → Cause v w load reading e
   by-references : (frame : Frame) (below : List Frame) (x : N) → reading.frames ≡ frame ∷ below → (decoded : IsDecoded v frame x) → IsForm v frame
       → references_fault w (Owner.Load reading.load) [] (v.references x) ≡ Some e → Cause v w load reading e
+  by-names : (frame : Frame) (below : List Frame) (x : N) → reading.frames ≡ frame ∷ below → (decoded : IsDecoded v frame x) → IsForm v frame
+      → named_fault w (Owner.Load reading.load) [] (handles_of (v.references x)) ≡ Some e → Cause v w load reading e
   by-handle : (node : NodeNumber) (t : ℕ) (h : HandleNumber) → load.root ≡ of_cell node t h → handle_fault w Owner.Caller h any_mode ≡ Some e
       → Cause v w load reading e
 
-module _ {N E : Type 0} (v : Values N) (s : MachineState N E) (trees : ℕ → Tree) (on : IsGoingOn v s trees) (lawful : IsLawful v) where
-  abbrev w : Core
-  w = s.pager.core
+-- the load is of a key, or of a cell of this type
+abbrev pub IsOfType : Root → ℕ → Type 0
+IsOfType (of_cell node u h) t = u ≡ t
+IsOfType of_key t = Unit {0}
 
-  module _ (l : LoadNumber) (reading : Reading) (load : OpenLoad) (at : reading_at (world_of s) l ≡ Some reading) (may : load_fault w Owner.Caller l ≡ None)
-      (open_load : w.loads l.0 ≡ Some load) (paged : IsLoadOfPagedOut s load) where
-    abbrev out : IsPagedOutAs s paged.0.0 load.key
-    out = paged.4
+-- The caller's load of a key that a page-out has published, on a table that fits the trees. What it has read fits them too.
+pub record OfPagedOut {N : Type 0} (v : Values N) (w : Core) (trees : ℕ → Tree) (reading : Reading) (load : OpenLoad) : Type 0 where
+  pub shelf : Shelf
+  pub slots : SlotsFit v (record { stored = w.stored; last = w.last.node; trees = trees }) shelf
+  pub i : Identity
+  pub height : ℕ
+  pub known : IsPublished shelf i load.key height
+  pub typed : (trees i.node.0).type ≡ reading.node_type
+  pub root : IsOfType load.root reading.node_type
+  pub open_load : w.loads reading.load.0 ≡ Some load
+  pub may : load_fault w Owner.Caller reading.load ≡ None
+  pub fits : FramesFit v.types w.stored trees load.key reading.node_type reading.frames
+  pub asked : FramesAsked v.types reading.frames
 
-    number : reading.load ≡ l
-    number = reading-number s on.whole l reading at
+module _ {N : Type 0} (v : Values N) (lawful : IsLawful v) (w : Core) (trees : ℕ → Tree) (reading : Reading) (load : OpenLoad)
+    (o : OfPagedOut v w trees reading load) where
+  abbrev ground : Ground
+  ground = record { stored = w.stored; last = w.last.node; trees = trees }
 
-    going : Going v s.pager trees reading
-    going = going-of s trees on.readings reading (reading-stands (world_of s) on.whole.pager.whole l reading at)
+  found : (blob : Blob) × (w.stored load.key ≡ Some blob)
+  found = let b = (o.slots o.i o.known.slot o.known.claimed).publishes load.key o.height o.known.known in (_, b.2.is_stored)
 
-    fits : FramesFit v.types w.stored trees load.key reading.node_type reading.frames
-    fits = going.fits load (reading-open s on.whole l reading at open_load)
+  abbrev C : Error → Type 0
+  C e = Cause v w load reading e
 
-    of-type : reading.node_type ≡ paged.1
-    of-type =
-        let there : (s.work.readings l.0 ≡ Some reading → reading.node_type ≡ paged.1) = λ is.
-        let a = on.whole.readings l.0 reading is in rw (same_some _ _ (sym a.open_load ∙ open_load), paged.3) at a.typed in
-        grind (basics, there)
+  no-load-fault : (P : Error → Type 0) → Only P (load_fault w Owner.Caller reading.load)
+  no-load-fault P e is = absurd (cc (sym is ∙ o.may))
 
-    -- the tree that it reads
-    typed : (trees out.i.node.0).type ≡ reading.node_type
-    typed = let r = on.stands.pager.loads l.0 load paged.0 paged.1 paged.2 open_load paged.3 in ap (λ n. (trees n).type) out.of_node ∙ r.typed ∙ sym of-type
+  need-there : (kind : Kind) (key : ℕ) → Needs v.types reading.frames kind key → (blob : Blob) × (w.stored key ≡ Some blob)
+      × (is_eager kind.0 ≡ true → length reading.frames ≤ longest_path)
+  need-there = needed v ground o.shelf o.slots load.key reading.node_type o.i o.height o.known o.typed reading.frames o.fits o.asked
 
-    found : (blob : Blob) × (w.stored load.key ≡ Some blob)
-    found = let b = (on.fits.slots out.t out.i out.known.slot out.known.claimed).publishes load.key out.height out.known.known in (_, b.2.is_stored)
+  front : (frames : List Frame) (kind : Kind) (key : ℕ) → need_of v.types frames ≡ needs_nested kind key → is_eager kind.0 ≡ true
+  front x0 kind key is = grind (basics, eager-nested)
 
-    abbrev C : Error → Type 0
-    C e = Cause v w load reading e
+  form-of : (frame : Frame) (below : List Frame) → reading.frames ≡ frame ∷ below → (x : N) → IsDecoded v frame x → IsForm v frame
+  form-of frame below is x decoded = formed v ground o.shelf o.slots load.key reading.node_type o.i o.height o.known o.typed frame below
+      (subst (λ fs. FramesFit v.types w.stored trees load.key reading.node_type fs) is o.fits) (subst (λ fs. FramesAsked v.types fs) is o.asked) decoded.own
+      decoded.read
 
-    no-load-fault : (P : Error → Type 0) → Only P (load_fault w Owner.Caller reading.load)
-    no-load-fault P e is = absurd (cc (ap (load_fault w Owner.Caller) number ∙ may))
+  ask-chance : (want : FetchTarget) (mid : Core) (e : Error)
+      → Refused (ask_fault w Owner.Caller reading.load want) (ask_fault w Owner.Caller reading.load want) ((is_known w want ≡ true) × AreHandlesFull w) w e
+      mid → IsOfChance e
+  ask-chance want mid e r = only-refused {P = IsOfChance} e r (only-earlier _ _ (no-load-fault _) (λ e is. grind (basics, only-if IsOfChance))) tt
 
-    need-there : (kind : Kind) (key : ℕ) → Needs v.types reading.frames kind key → (blob : Blob) × (w.stored key ≡ Some blob)
-        × (is_eager kind.0 ≡ true → length reading.frames ≤ longest_path)
-    need-there = needed v s trees on.fits out.t load.key reading.node_type out.i out.height out.known typed reading.frames fits going.asked
+  nested-asked : (kind : Kind) (key : ℕ) (blob : Blob) (mid : Core) (e : Error) → w.stored key ≡ Some blob
+      → LoadFetchCall w Owner.Caller reading.load (FetchTarget.Nested kind key) (Err e) mid → IsOfChance e
+  nested-asked kind key blob mid e is c = elim c.refused [
+    | inl r ↦ ask-chance (FetchTarget.Nested kind key) mid e r
+    | inr (other, owned, vain) ↦ (grind basics)
+  ]
 
-    front : (frames : List Frame) (kind : Kind) (key : ℕ) → need_of v.types frames ≡ needs_nested kind key → is_eager kind.0 ≡ true
-    front x0 kind key is = grind (basics, eager-nested)
+  of-lazy : (mid : Core) (e : Error) (kind : Kind) (key : ℕ) → need_of v.types reading.frames ≡ needs_lazy kind key
+      → LazyCall w Owner.Caller reading.load kind key (Err e) mid → IsOfChance e
+  of-lazy mid e kind key needs c = only-refused {P = IsOfChance} e c.refused
+      (only-earlier _ _ (no-load-fault _) (only-earlier _ _ (λ f so. absurd (never _ Error.WrongKind f (grind basics) so))
+      (only-node IsOfChance w kind key tt))) tt
 
-    form-of : (frame : Frame) (below : List Frame) → reading.frames ≡ frame ∷ below → (x : N) → IsDecoded v frame x → IsForm v frame
-    form-of frame below is x decoded = formed v s trees on.fits out.t load.key reading.node_type out.i out.height out.known typed frame below
-        (subst (λ fs. FramesFit v.types w.stored trees load.key reading.node_type fs) is fits) (subst (λ fs. FramesAsked v.types fs) is going.asked) decoded.own
-        decoded.read
+  of-node : (mid : Core) (e : Error) → RefusesNode v w Owner.Caller reading e mid → C e
+  unfolding FramesFit FramesAsked
+  of-node mid e r =
+      let n = r.reads_node in
+      let right : (is_eager n.top.kind.0 ≡ true) × (n.top.node_type ≡ type_of n.top.kind.0) = grind (basics, o.fits, o.asked, adopted-over) in
+      only-refused {P = C} e r.adopted.refused.1 (only-earlier _ _ (no-load-fault _)
+      (only-earlier _ _ (λ f so. absurd (never _ Error.WrongMode f (grind basics) so))
+      (only-earlier _ _ (λ f so. absurd (never _ Error.WrongKind f (ap (λ x. not (x == (type_of n.top.kind.0))) (n.decoded.typed ∙ right.1)
+      ∙ ap not (self-number (type_of n.top.kind.0))) so))
+      (only-earlier _ _ (λ f a. by-references n.top n.below r.x n.frames n.decoded (form-of n.top n.below n.frames r.x n.decoded) a)
+      (λ f a. by-chance (only-node IsOfChance w n.top.kind n.top.key tt f a)))))) (by-chance tt)
 
-    ask-chance : (want : FetchTarget) (mid : Core) (e : Error)
-        → Refused (ask_fault w Owner.Caller reading.load want) (ask_fault w Owner.Caller reading.load want) ((is_known w want ≡ true) × AreHandlesFull w) w e
-        mid → IsOfChance e
-    ask-chance want mid e r = only-refused {P = IsOfChance} e r (only-earlier _ _ (no-load-fault _) (λ e is. grind (basics, only-if IsOfChance))) tt
+  of-root : (mid : Core) (e : Error) → RefusesRoot v w Owner.Caller reading e mid → C e
+  unfolding FramesFit
+  of-root mid e r = elim r.refuses [
+    | inr (is, handed) ↦
+        let same : is.load ≡ load = same_some _ _ (sym is.open_load ∙ o.open_load) in
+        only-earlier {P = C} _ _ (no-load-fault _) (only-earlier _ _ (λ f a. absurd (grind (basics, same, o.open_load, is.sort)))
+        (λ f a. by-names r.reads_root.root [] r.x r.reads_root.frames r.reads_root.decoded
+        (form-of r.reads_root.root [] r.reads_root.frames r.x r.reads_root.decoded) a)) e handed.refused.0
+    | inl (is, ended) ↦
+        let same : is.load ≡ load = same_some _ _ (sym is.open_load ∙ o.open_load) in
+        only-refused {P = C} e ended.refused.1 (only-earlier _ _ (no-load-fault _) (only-earlier _ _
+        (λ f a. by-chance (grind (basics, same, is.sort, o.open_load, o.root, o.fits, either, never, only-if IsOfChance, self-number)))
+        (λ f a. by-references r.reads_root.root [] r.x r.reads_root.frames r.reads_root.decoded
+        (form-of r.reads_root.root [] r.reads_root.frames r.x r.reads_root.decoded) a)))
+        (by-chance tt)
+  ]
 
-    nested-asked : (kind : Kind) (key : ℕ) (blob : Blob) (mid : Core) (e : Error) → w.stored key ≡ Some blob
-        → LoadFetchCall w Owner.Caller reading.load (FetchTarget.Nested kind key) (Err e) mid → IsOfChance e
-    nested-asked kind key blob mid e is c = elim c.refused [
-      | inl r ↦ ask-chance (FetchTarget.Nested kind key) mid e r
-      | inr (other, owned, vain) ↦ (grind basics)
-    ]
-
-    of-lazy : (mid : Core) (e : Error) (kind : Kind) (key : ℕ) → need_of v.types reading.frames ≡ needs_lazy kind key
-        → LazyCall w Owner.Caller reading.load kind key (Err e) mid → IsOfChance e
-    of-lazy mid e kind key needs c = only-refused {P = IsOfChance} e c.refused
-        (only-earlier _ _ (no-load-fault _) (only-earlier _ _ (λ f so. absurd (never _ Error.WrongKind f (grind basics) so))
-        (only-node IsOfChance w kind key tt))) tt
-
-    of-node : (mid : Core) (e : Error) → RefusesNode v w Owner.Caller reading e mid → C e
-    unfolding FramesFit FramesAsked
-    of-node mid e r =
-        let n = r.reads_node in
-        let right : (is_eager n.top.kind.0 ≡ true) × (n.top.node_type ≡ type_of n.top.kind.0) = grind (basics, fits, going, adopted-over) in
-        only-refused {P = C} e r.adopted.refused.1 (only-earlier _ _ (no-load-fault _)
-        (only-earlier _ _ (λ f so. absurd (never _ Error.WrongMode f (grind basics) so))
-        (only-earlier _ _ (λ f so. absurd (never _ Error.WrongKind f (ap (λ x. not (x == (type_of n.top.kind.0))) (n.decoded.typed ∙ right.1)
-        ∙ ap not (self-number (type_of n.top.kind.0))) so))
-        (only-earlier _ _ (λ f a. by-references n.top n.below r.x n.frames n.decoded (form-of n.top n.below n.frames r.x n.decoded) a)
-        (λ f a. by-chance (only-node IsOfChance w n.top.kind n.top.key tt f a)))))) (by-chance tt)
-
-    of-root : (mid : Core) (e : Error) → RefusesRoot v w Owner.Caller reading e mid → C e
-    unfolding FramesFit
-    of-root mid e r = elim r.refuses [
-      | inr (is, handed) ↦
-          let same : is.load ≡ load = same_some _ _ (sym is.open_load ∙ (ap (λ (x : LoadNumber). w.loads x.0) number ∙ open_load)) in
-          absurd (subst IsOfKey (ap (λ (x : OpenLoad). x.root) same ∙ paged.3) is.sort)
-      | inl (is, ended) ↦ only-refused {P = C} e ended.refused.1 (only-earlier _ _ (no-load-fault _) (only-earlier _ _
-          (λ f a. by-chance (grind (basics, number, fits, of-type, either, never, only-if IsOfChance, self-number)))
-          (λ f a. by-references r.reads_root.root [] r.x r.reads_root.frames r.reads_root.decoded
-          (form-of r.reads_root.root [] r.reads_root.frames r.x r.reads_root.decoded) a)))
-          (by-chance tt)
-    ]
-
-    pub cause : (w' : Core) (e : Error) → Fails v w Owner.Caller reading e w' → C e
-    cause w' e (inr r) =
-        let c = r.ended.refused in
-        let same : c.may.load ≡ load = same_some _ _ (sym c.may.owned.stands_open ∙ (ap (λ (x : LoadNumber). w.loads x.0) number ∙ open_load)) in
-        by-handle c.node (v.node_type r.x) c.h (ap (λ (x : OpenLoad). x.root) (sym same) ∙ c.may.of_node) c.why
-    cause w' e (inl gives) = elim gives.meets [
-      | inl (refuses, a) ↦
-          by-chance (grind (
-            basics,
-            not-broken v s trees on.fits out.t load.key reading.node_type out.i out.height out.known typed reading.frames fits
-                going.asked,
-          ))
-      | inr (inl (first, asked)) ↦ by-chance (grind (basics, ask-chance, same_some, number, found))
-      | inr (inr (inl (kind, key, needs, inl asked))) ↦ let n = need-there kind key (inl needs) in by-chance (nested-asked kind key n.0 gives.mid e n.1 asked)
-      | inr (inr (inl (kind, key, needs, inr (blob, is, deep, asked)))) ↦
-          absurd (omega (arith, (need-there kind key (inl needs)).2 (front reading.frames kind key needs)))
-      | inr (inr (inr (inl (kind, key, needs, asked)))) ↦ by-chance (of-lazy gives.mid e kind key needs asked)
-      | inr (inr (inr (inr (inl node)))) ↦ of-node gives.mid e node
-      | inr (inr (inr (inr (inr root)))) ↦ of-root gives.mid e root
-    ]
+  pub cause : (w' : Core) (e : Error) → Fails v w Owner.Caller reading e w' → C e
+  cause w' e (inr r) =
+      let c = r.ended.refused in
+      let same : c.may.load ≡ load = same_some _ _ (sym c.may.owned.stands_open ∙ o.open_load) in
+      by-handle c.node (v.node_type r.x) c.h (ap (λ (x : OpenLoad). x.root) (sym same) ∙ c.may.of_node) c.why
+  cause w' e (inl gives) = elim gives.meets [
+    | inl (refuses, a) ↦
+        by-chance (grind (
+          basics,
+          not-broken v ground o.shelf o.slots load.key reading.node_type o.i o.height o.known o.typed reading.frames o.fits o.asked,
+        ))
+    | inr (inl (first, asked)) ↦ by-chance (grind (basics, ask-chance, same_some, o.open_load, found))
+    | inr (inr (inl (kind, key, needs, inl asked))) ↦ let n = need-there kind key (inl needs) in by-chance (nested-asked kind key n.0 gives.mid e n.1 asked)
+    | inr (inr (inl (kind, key, needs, inr (blob, is, deep, asked)))) ↦
+        absurd (omega (arith, (need-there kind key (inl needs)).2 (front reading.frames kind key needs)))
+    | inr (inr (inr (inl (kind, key, needs, asked)))) ↦ by-chance (of-lazy gives.mid e kind key needs asked)
+    | inr (inr (inr (inr (inl node)))) ↦ of-node gives.mid e node
+    | inr (inr (inr (inr (inr root)))) ↦ of-root gives.mid e root
+  ]
 
 by-row : (w : Core) (r : ArcRef) (b : Bool) (row : HandleRow) → Only IsOfHandles (row_fault w r (refused_if b Error.NotYours) row)
 by-row w r b row e is = grind basics
@@ -324,17 +326,49 @@ by-all w owner seen (r ∷ rs) e is = grind (basics, of-reference, by-all w owne
 pub by-handle-row : (w : Core) (me : Owner) (h : HandleNumber) (fits : Mode → Bool) → Only IsOfHandles (handle_fault w me h fits)
 by-handle-row w me h fits e is = grind basics
 
+pub by-all-names : (w : Core) (owner : Owner) (seen : List ℕ) (hs : List HandleNumber) → Only IsOfHandles (named_fault w owner seen hs)
+unfolding named_fault
+by-all-names w owner seen [] e is = absurd (cc)
+by-all-names w owner seen (h ∷ hs) e is = only-earlier {P = IsOfHandles} _ _ (λ f so. grind basics) (by-all-names w owner (h.0 ∷ seen) hs) e is
+
 module _ {N B W E : Type 0} (m : Seen N B W) (lawful : IsLawful m.values) (s s' : MachineState N E) (trees trees' : ℕ → Tree)
     (on : IsGoingOn m.values s trees) where
+  -- a load whose key was published, as the machine makes its steps
+  of-paged-out : (l : LoadNumber) (reading : Reading) (load : OpenLoad) → reading_at (world_of s) l ≡ Some reading
+      → load_fault s.pager.core Owner.Caller l ≡ None → s.pager.core.loads l.0 ≡ Some load → IsLoadOfPagedOut s load
+      → OfPagedOut m.values s.pager.core trees reading load
+  of-paged-out l reading load at may open_load paged =
+      let number = reading-number s on.whole l reading at in
+      let there = reading-open s on.whole l reading at open_load in
+      let going = going-of s trees on.readings reading (reading-stands (world_of s) on.whole.pager.whole l reading at) in
+      let own : (s.work.readings l.0 ≡ Some reading → reading.node_type ≡ paged.1) = λ is.
+      let a = on.whole.readings l.0 reading is in rw (same_some _ _ (sym a.open_load ∙ open_load), paged.3) at a.typed in
+      let of-type : reading.node_type ≡ paged.1 = grind (basics, own) in
+      let out = paged.4 in
+      record {
+        shelf = s.work.shelves out.t;
+        slots = on.fits.slots out.t;
+        i = out.i;
+        height = out.height;
+        known = out.known;
+        typed = ap (λ n. (trees n).type) out.of_node
+            ∙ (on.stands.pager.loads l.0 load paged.0 paged.1 paged.2 open_load paged.3).typed ∙ sym of-type;
+        root = subst (λ (x : Root). IsOfType x reading.node_type) (sym paged.3) (sym of-type);
+        open_load = there;
+        may = ap (load_fault s.pager.core Owner.Caller) number ∙ may;
+        fits = going.fits load there;
+        asked = going.asked;
+      }
+
   pub load-cause : (l : LoadNumber) (reply : LoadReply N) (x : LoadSteps m.values (world_of s) l reply (world_of s')) (load : OpenLoad) (e : Error)
       → s.pager.core.loads l.0 ≡ Some load
       → IsLoadOfPagedOut s load → reply.ended ≡ Some (LoadAnswer.Refused e) → Cause m.values s.pager.core load x.reading e
   load-cause l reply x load e open_load paged is =
       let fails = subst (λ a. LoadDoes m.values s.pager.core Owner.Caller x.reading a x.frames s'.pager.core) is x.does.does in
-      cause m.values s trees on lawful l x.reading load x.at x.may open_load paged s'.pager.core e fails.0
+      cause m.values lawful s.pager.core trees x.reading load (of-paged-out l x.reading load x.at x.may open_load paged) s'.pager.core e fails.0
 
   pub load-faultless : (event : Event N B W) (reply : EventReply N B W) → Happens m (world_of s) event reply (world_of s')
       → LoadOfPagedOutIsFaultless s trees event reply s' trees'
   load-faultless (Event.LoadStep l) (EventReply.LoadMoved (Ok reply)) is = λ load e open_load paged ended.
-      grind (basics, by-all, by-handle-row, load-cause l reply is.moves load e open_load paged ended)
+      grind (basics, by-all, by-all-names, by-handle-row, load-cause l reply is.moves load e open_load paged ended)
   load-faultless event reply is = tt

@@ -46,7 +46,7 @@ use Rattle.std.proofs.Math.Nat.{zero-add}
 use Rattle.std.specs.Prelude.{nat_le}
 
 -- the pager stands for trees, and what the load has read fits them
-record Under {N E : Type 0} (v : Values N) (s : PagerState N E) (trees : ℕ → Tree) (key : ℕ) (reading : Reading) : Type 0 where
+pub record Under {N E : Type 0} (v : Values N) (s : PagerState N E) (trees : ℕ → Tree) (key : ℕ) (reading : Reading) : Type 0 where
   pub settled : HoldsSettled v s
   pub well : IsPagerWhole v s
   pub stands : PagerStandsFor v s trees
@@ -80,14 +80,14 @@ after-then a b = record {
 
 module _ {N E : Type 0} {v : Values N} (lawful : IsLawful v) where
   -- what a step comes to: a load that goes on is so again, and the value that it answers is that of its key
-  record Stepped (s : PagerState N E) (trees : ℕ → Tree) (key : ℕ) (reading : Reading) (answer : Option (LoadAnswer N)) (frames : List Frame)
+  pub record Stepped (s : PagerState N E) (trees : ℕ → Tree) (key : ℕ) (reading : Reading) (answer : Option (LoadAnswer N)) (frames : List Frame)
       (s' : PagerState N E) : Type 0 where
     pub trees' : ℕ → Tree
     pub after : After v s trees s' trees'
     pub still : answer ≡ None → Under v s' trees' key (gone_on reading frames)
     pub right : (x : N) → answer ≡ Some (LoadAnswer.Read x) → ReadIsRight v s' key x
 
-  stepped : (s s' : PagerState N E) (trees : ℕ → Tree) (key : ℕ) (reading : Reading) (answer : Option (LoadAnswer N)) (frames : List Frame)
+  pub stepped : (s s' : PagerState N E) (trees : ℕ → Tree) (key : ℕ) (reading : Reading) (answer : Option (LoadAnswer N)) (frames : List Frame)
       → Under v s trees key reading → HoldsSettled v s' → TakesWell v s reading
       → ReadingStep v Owner.Caller reading s answer frames s' → Stepped s trees key reading answer frames s'
   stepped s s' trees key reading answer frames u settled' takes step =
@@ -129,7 +129,7 @@ module _ {N E : Type 0} {v : Values N} (lawful : IsLawful v) where
 
   module _ (s mid : PagerState N E) (trees : ℕ → Tree) (well : IsPagerWhole v s) (settled : HoldsSettled v s) (stands : PagerStandsFor v s trees)
       (does : Goes nothing_felt s.core mid.core) (moves : Moves (λ n x. ⊥) s mid) (whole : IsPagerWhole v mid) where
-    begun : After v s trees mid trees
+    pub begun : After v s trees mid trees
     begun = search (
       does.nodes,
       does.handles,
@@ -138,7 +138,7 @@ module _ {N E : Type 0} {v : Values N} (lawful : IsLawful v) where
           (fits-nothing lawful settled well whole stands (λ n x. ⊥) (λ n x comes none is. absurd comes)),
     )
 
-    under : (w : Core) (l : LoadNumber) (t key : ℕ) (root : Root) → l.0 ≡ w.last.load + 1 → Alike (with_load w key root Owner.Caller) mid.core
+    pub under : (w : Core) (l : LoadNumber) (t key : ℕ) (root : Root) → l.0 ≡ w.last.load + 1 → Alike (with_load w key root Owner.Caller) mid.core
         → Under v mid trees key (fresh l t)
     unfolding FramesFit
     under w l t key root next a =
@@ -389,7 +389,7 @@ module _ {N E B W : Type 0} (m : Seen N B W) (n : ℕ) (task : Task) (C : Type 0
 
   -- What a worker leaves with its answer: of its own claims, and of others'. And what it failed with was met where, if C, what its list fails with was met,
   -- and none of its claims had failed.
-  at-answer : {todo : List Todo} {s s' : AccessState N E} {steps : List (Action W)} {answer : WorkerAnswer} → WorkerRun m n todo s steps answer s'
+  pub at-answer : {todo : List Todo} {s s' : AccessState N E} {steps : List (Action W)} {answer : WorkerAnswer} → WorkerRun m n todo s steps answer s'
       → (past : List (Action W)) → AllStand s.shelf n task todo
       → Covers s.shelf n todo → (C → HasNoFailed s.shelf n × FailsMet n s.shelf past todo)
       → ((i : Identity) (slot : Slot) → s'.shelf.slots i ≡ Some slot → slot.worker ≡ n → is_open_outcome slot.outcome ≡ false)

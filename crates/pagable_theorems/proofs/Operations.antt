@@ -15,20 +15,22 @@ use Rattle.pagable_theorems.proofs.{
   EventEffects.event-goes,
   HandlesKept.{rows-self, updated-at},
   LoadProgress.{moves-as, settled-on},
-  LoadResults.{After, after-then},
+  LoadResults.{After, after-then, answered},
   Moments.{IsAtRest, WorksAlone, at-rest, at-work, entry-began, item-began, moved, reply-of, rest-whole, same-shelf, table-made, walking-on, with-table},
   Moments.{with-table-rests, works-alone},
   ReadingSteps.caller-free,
+  TablesKept.{done-on, keys-same},
   Trees.{same-number, same_some},
   Words.{Action, Alike, Call, Core, Event, EventReply, HandleNumber, HandleRow, HoldsSettled, IsLawful, IsPagerWhole, IsWellAsked, KeepsOpen, List},
   Words.{MachineState, Moment, None, Ok, Option, Owner, PagerStandsFor, PagerState, Reply, Result, Seen, Shelf, Some, Task, Todo, Tree, Values, Walking},
-  Words.{WorkerAnswer, answer_after, ap, arith, basics, cases_Bool, inl, inr, length, of_item, refl, subst, sym, true, world_of, ℕ, ◌+◌, ◌<◌, ◌==◌, ◌∙◌, ◌≡◌},
-  Words.◌≤◌,
+  Words.{WorkerAnswer, WorkerState, answer_after, ap, arith, basics, cases_Bool, inl, inr, length, of_item, refl, subst, sym, true, world_of, ℕ, ◌+◌, ◌<◌},
+  Words.{◌==◌, ◌∙◌, ◌≡◌, ◌≤◌},
 }
 use Rattle.pagable_theorems.specs.{
   CallerLaws.{CallIsRight, IsCall},
   PageOutLaws.{EachIsPagedOut, EntryAsksWell, EntryIsPagedOut, ItemAsksWell, ItemLaw, LeavesPagedOut, ListAsksWell, ListLaw, NobodyWorks, WorkerAsksWell},
   SmallWorlds.no_work,
+  TreeSteps.{Ground, IsDone, SlotsFit, Walks},
 }
 use Rattle.std.specs.Prelude.{is_none}
 
@@ -51,15 +53,20 @@ abbrev pub stays-then : {N E : Type 0} {v : Values N} {s mid s' : PagerState N E
     → Stays v s trees s'
 stays-then a r = record { trees' = r.trees'; after = after-then a r.after; now = r.now }
 
--- after a worker's answer: where that is a key, all that its task met is left paged out
+abbrev pub ground : {N E : Type 0} → PagerState N E → (ℕ → Tree) → Ground
+ground s trees = record { stored = s.core.stored; last = s.core.last.node; trees = trees }
+
+-- after a worker's answer: where that is a key, all that its task met is left paged out; and its table fits the trees
 pub record Ended {N E : Type 0} (v : Values N) (s : PagerState N E) (trees : ℕ → Tree) (answer : WorkerAnswer) (task : Task)
     (s' : AccessState N E) : Type 0 where
   pub stays : Stays v s trees s'.pager
   pub out : (key : ℕ) → answer ≡ WorkerAnswer.Key key → LeavesPagedOut v s'.pager s'.shelf stays.trees' task key
+  pub slots : SlotsFit v (ground s'.pager stays.trees') s'.shelf
+  pub done : (key : ℕ) → answer ≡ WorkerAnswer.Key key → IsDone v s'.shelf task key
 
 from-after : {N E : Type 0} {v : Values N} {s mid : PagerState N E} {trees trees' : ℕ → Tree} {answer : WorkerAnswer} {task : Task} {s' : AccessState N E}
     → After v s trees mid trees' → Ended v mid trees' answer task s' → Ended v s trees answer task s'
-from-after a r = record { stays = stays-then a r.stays; out = r.out }
+from-after a r = record { stays = stays-then a r.stays; out = r.out; slots = r.slots; done = r.done }
 
 module _ {N E B W : Type 0} (m : Seen N B W) (lawful : IsLawful m.values) where
   record Came (a : MachineState N E) (trees : ℕ → Tree) (x : Moment N E B W) : Type 0 where
@@ -139,6 +146,14 @@ module _ {N E B W : Type 0} (m : Seen N B W) (lawful : IsLawful m.values) where
                     (c.right.leaves now key there_now e);
                 is_key = c.right.key now key there_now e;
               };
+          slots = subst (λ (x : Shelf). SlotsFit m.values (ground s'.pager c.trees') x) (updated-at t s'.shelf base.shelves) (c.going.fits.slots t);
+          done = λ key same.
+              let site : WorkerState = record { core = s.pager.core; shelf = s.shelf; todo = todo } in
+              let walking = walking-on t task todo count None in
+              let walks = subst (λ (x : Shelf). Walks m.values (ground s.pager trees) x task todo) (updated-at t s.shelf base.shelves)
+              (on.fits.walks n walking (updated-at n (Some walking) base.walkings)) in
+              let a = answered m n (ground s.pager trees) task site w.after todo step w.does.does walks key (is ∙ ap Some same) in
+              done-on (keys-same (λ i. w.shelf_is.slots i ∙ a.1 i)) m.values task key a.0;
         }
     ends (worker-goes-on todo next step steps answer s mid s' w is more) asks count trees alone on =
         let c = step-comes s mid todo next count step trees w alone on asks.0 asks.1 in
@@ -197,7 +212,7 @@ module _ {N E B W : Type 0} (m : Seen N B W) (lawful : IsLawful m.values) (s : A
       from-after with-a-table.after (from-after c.after (ends m lawful tabled tabled-rests n 1 (omega arith, omega arith) task run asks 0 c.trees'
       (works-alone n core mid starts.begins.step (starts.next ∙ ap (λ k. k + 1) (sym last)) nobody) c.going))
 
-  item-walks : (item : W) {n : ℕ} {mid : PagerState N E} {s' : AccessState N E} {steps : List (Action W)} {answer : WorkerAnswer}
+  pub item-walks : (item : W) {n : ℕ} {mid : PagerState N E} {s' : AccessState N E} {steps : List (Action W)} {answer : WorkerAnswer}
       → WorkerStarts m.values s.pager.core s.pager n mid
       → (run : WorkerRun m n (first_todo (of_item (m.written_of item))) (record { pager = mid; shelf = s.shelf }) steps answer s') → WorkerAsksWell run
       → Ended m.values s.pager trees answer (of_item (m.written_of item)) s'
@@ -207,7 +222,7 @@ module _ {N E B W : Type 0} (m : Seen N B W) (lawful : IsLawful m.values) (s : A
       (item-began m tabled tabled-rests n 1 (omega arith, omega arith) task item s mid refl (updated-at 1 s.shelf no_work.shelves) starts nobody) tt tt starts
       nobody refl run asks
 
-  entry-walks : (place : ℕ) (h : HandleNumber) (row : HandleRow) (type n : ℕ) (mid : PagerState N E) {s' : AccessState N E} {steps : List (Action W)}
+  pub entry-walks : (place : ℕ) (h : HandleNumber) (row : HandleRow) (type n : ℕ) (mid : PagerState N E) {s' : AccessState N E} {steps : List (Action W)}
       {answer : WorkerAnswer}
       → IsEntry s.pager.core place h row type → HasKinds type
       → WorkerStarts m.values (with_entry_taken s.pager.core place h (record { 0 = n })) s.pager n mid
@@ -283,7 +298,7 @@ module _ {N E B W : Type 0} (m : Seen N B W) (lawful : IsLawful m.values) where
       → Stays m.values s trees s'
   unchanged {s} at c = (plain-stays Call.Pending (Reply.Length (length s.core.list)) at c (refl, c.step) tt tt).0
 
-  entry-stays : {s s' : PagerState N E} {place : ℕ} {answer : WorkerAnswer} {trees : ℕ → Tree} → Stands m.values s trees → (run : EntryRun m s place answer s')
+  pub entry-stays : {s s' : PagerState N E} {place : ℕ} {answer : WorkerAnswer} {trees : ℕ → Tree} → Stands m.values s trees → (run : EntryRun m s place answer s')
       → EntryAsksWell run
       → (a : Stays m.values s trees s') × ((key : ℕ) → answer ≡ WorkerAnswer.Key key → EntryIsPagedOut m.values s.core place s' a.trees' key)
   entry-stays at (entry-is-refused h row t s' is none c) asks = (unchanged at c, λ key same. absurd (cc))

@@ -15,7 +15,7 @@ use Rattle.pagable_pager_spec.specs.{
 use Rattle.pagable_theorems.proofs.{
   Chains.IsGoingOn,
   Decoding.{FramesAsked, asks-by-kinds, faulty-by-kinds, kinds_of},
-  LoadFaults.{Only, by-all, by-handle-row, only-earlier, only-if, only-node, only-refused, only-where},
+  LoadFaults.{Only, by-all, by-all-names, by-handle-row, only-earlier, only-if, only-node, only-refused, only-where},
   LoadProgress.{asked as was-asked, eager-nested, going-of},
   Naturality.{Out, OutLook, Sober, both-faulty, both-given, both-looked-up, both-not, both-refused, each, first-refused, typed_par},
   ReadingSteps.{reading-open, reading-stands},
@@ -136,9 +136,7 @@ pub only-load : (w : Core) (me : Owner) (l : LoadNumber) → Only Quiet (load_fa
 only-load w me l e is = grind basics
 
 only-named : (w : Core) (owner : Owner) (seen : List ℕ) (hs : List HandleNumber) → Only Quiet (named_fault w owner seen hs)
-unfolding named_fault
-only-named w owner seen [] e is = absurd (cc)
-only-named w owner seen (h ∷ hs) e is = only-earlier {P = Quiet} _ _ (λ f so. grind basics) (only-named w owner (h.0 ∷ seen) hs) e is
+only-named w owner seen hs e is = handles-quiet e (by-all-names w owner seen hs e is)
 
 pub only-all : (w : Core) (owner : Owner) (rs : List ArcRef) → Only Quiet (references_fault w owner [] rs)
 only-all w owner rs e is = handles-quiet e (by-all w owner [] rs e is)
@@ -307,7 +305,7 @@ module _ {N B W : Type 0} (m : Seen N B W) (lawful : IsLawful m.values) (w : Cor
   nested-deep : (u : Core) → RefusesNested m.values.types w me reading Error.TooDeep u → Deep
   nested-deep u x1 = grind (basics, not-asked, of-path)
 
-  fails-deep : (w' : Core) → Fails m.values w me reading Error.TooDeep w' → Deep
+  pub fails-deep : (w' : Core) → Fails m.values w me reading Error.TooDeep w' → Deep
   fails-deep w' (inr ended) = absurd (by-handle-row w me ended.ended.refused.h any_mode Error.TooDeep ended.ended.refused.why)
   fails-deep w' (inl gives) = elim gives.meets [
     | inl (refuses, a) ↦ (grind (basics, down-to, kinds_of, faulty-by-kinds, next_in))

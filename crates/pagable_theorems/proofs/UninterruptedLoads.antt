@@ -4,7 +4,8 @@ use Rattle.pagable_pager_spec.specs.{
   Calls.{Asked, row_of, with_node},
   Events.{LoadSteps, ReadingsAre, reading_at},
   LoadCalls.BeginCall,
-  Loads.{GoesOn, IsDecoded, LoadDoes, MakesNode, gone_on, with_got},
+  Loads.{GoesOn, IsDecoded, LoadDoes, MakesNode, gone_on, handles_of, with_got},
+  Refusals.named_fault,
   Runs.TakesWell,
   WorkerClaims.{IsLoadOfPagedOut, IsOfChance, LoadIsSound, StandTogether, of_load, turn_of},
   declared.events.LoadReply.LoadReply,
@@ -14,16 +15,17 @@ use Rattle.pagable_theorems.proofs.{
   Decoding.{AreApart, decodes, fine, reads-once},
   Effects.{moved-free, named-among, with-one},
   HandlesKept.{Has, NotValues, Stands, found-number, good, has-alike, low-changed, low-whole, new-handle, stands-alike, stands-fell, stands-whole, updated-at},
-  LoadFaults.{IsForm, by-chance, by-handle, by-references, load-cause},
-  LoadProgress.{AllGot, all-more, all-new, asked, first-fits, going-of, pushed, row-held},
+  LoadFaults.{Cause, IsForm, by-chance, by-handle, by-names, by-references, load-cause},
+  LoadProgress.{AllGot, Going, all-more, all-new, asked, first-fits, going-of, pushed, row-held},
   ReadingSteps.{cached-rows, reading-number, reading-open, reading-stands},
   StepBounds.got-typed,
   Trees.same_some,
   Words.{Alike, Among, ArcRef, Beginning, Bool, Call, Core, Err, Error, Event, EventReply, Frame, FramesFit, GetsKnown, HandleNumber, HandleRow},
   Words.{HandlesAreWhole, Happens, IsLawful, IsMachineWhole, IsReadableType, IsReference, IsWellAsked, Kind, List, LoadAnswer, LoadNumber, MachineState, Mode},
-  Words.{Moment, NodeNumber, None, Ok, OpenLoad, Option, OptionalDataKey, Owner, Reading, Reply, Seen, Some, Tree, Values, adopted, ap, arith, basics, false},
-  Words.{false_from_ne_true, find_row, held, if_there, inl, inr, is_in, is_named_by, is_some, mode_of, next_node, of_cell, owner_value, references_fault, refl},
-  Words.{root_frame, row_at, rules, slice_get, subst, suc, sym, type_of, with_handle, world_of, zero, ℕ, [], ◌+◌, ◌<◌, ◌==◌, ◌∙◌, ◌∷◌, ◌≡◌, ◌⊎◌},
+  Words.{Moment, NodeNumber, None, Ok, OpenLoad, Option, OptionalDataKey, Owner, PagerStandsFor, PagerState, Reading, Reply, Seen, Some, Tree, Values, adopted},
+  Words.{ap, arith, basics, false, false_from_ne_true, find_row, held, if_there, inl, inr, is_in, is_named_by, is_some, mode_of, next_node, of_cell},
+  Words.{owner_value, references_fault, refl, root_frame, row_at, rules, slice_get, subst, suc, sym, type_of, with_handle, world_of, zero, ℕ, [], ◌+◌, ◌<◌},
+  Words.{◌==◌, ◌∙◌, ◌∷◌, ◌≡◌, ◌⊎◌},
 }
 use Rattle.pagable_theorems.specs.{DepthLaws.{HasBegun, IsBeginOf, UninterruptedLoadsAreSound}, TreeSteps.FramesHeld}
 
@@ -183,7 +185,7 @@ module _ {N : Type 0} (v : Values N) (lawful : IsLawful v) (w w' : Core) (readin
       let once : GotOnce (frame ∷ reading.frames) = rw none (λ j l r q at. absurd (cc), λ r (j, at). absurd (cc), still.once) in
       search (still.begun, all-new (λ r. Has w' (Owner.Load l) r.handle) frame reading.frames none still.live, once)
 
-  goes-ready : (frames : List Frame) → GoesOn v w Owner.Caller reading frames w' → LoadReady w' l load frames
+  pub goes-ready : (frames : List Frame) → GoesOn v w Owner.Caller reading frames w' → LoadReady w' l load frames
   unfolding is_named_by
   goes-ready frames (inl g) = rw g.goes (rw g.first at (asked-ready g.asked.gives.2.asked (root_frame g.load.key reading.node_type g.blob) refl))
   goes-ready frames (inr (inl g)) = subst (λ fs. LoadReady w' l load fs) (sym g.goes) (known-ready g.kind g.key g.k g.row g.asked.gives.2 g.made)
@@ -195,6 +197,47 @@ module _ {N : Type 0} (v : Values N) (lawful : IsLawful v) (w w' : Core) (readin
         (all-ready (λ q x free own s. adopted-keeps w w' l g.kind g.key (OptionalDataKey.Some g.key) [] a refl s))
   ])
   goes-ready frames (inr (inr (inr (inr g)))) = subst (λ fs. LoadReady w' l load fs) (sym g.goes) (node-ready frames g)
+
+-- where references have no fault, their handles have none
+none-named : (w : Core) (owner : Owner) (seen : List ℕ) (rs : List ArcRef) → references_fault w owner seen rs ≡ None
+    → named_fault w owner seen (handles_of rs) ≡ None
+unfolding references_fault named_fault
+none-named w owner seen [] is = refl
+none-named w owner seen (r ∷ rs) is = grind (basics, none-named w owner (r.handle.0 ∷ seen) rs)
+
+-- a load that is ready has no fault in its references, nor in the handle that began it: so it fails by chance alone
+module _ {N E : Type 0} (v : Values N) (lawful : IsLawful v) (s : PagerState N E) (trees : ℕ → Tree) (stands : PagerStandsFor v s trees) (reading : Reading)
+    (load : OpenLoad) (types : TypesAreRead v reading) (ready : LoadReady s.core reading.load load reading.frames) (going : Going v s trees reading)
+    (open_load : s.core.loads reading.load.0 ≡ Some load) where
+  references-fine : (frame : Frame) (below : List Frame) (x : N) → reading.frames ≡ frame ∷ below
+      → (decoded : IsDecoded v frame x) → IsForm v frame → references_fault s.core (Owner.Load reading.load) [] (v.references x) ≡ None
+  unfolding is_in
+  references-fine frame below x is decoded form =
+      let fits = first-fits v.types load.key reading.node_type s.core.stored trees frame below (rw is at (going.fits load open_load)) in
+      let front = subst (λ fs. Among fs frame) (sym is) (zero, refl) in
+      let good-one : (r : ArcRef) → Among (v.references x) r → IsReference s.core (Owner.Load reading.load) r = λ r among.
+      let got = (decodes lawful frame x (types frame front) fits decoded).got r among in let b = ready.live frame r front got in
+      let stood = (going.held frame r front got).is b.row b.live b.own in
+      let live = subst (λ (n : NodeNumber). 0 < held n.0 s.core.rows) stood.0 (row-held s.core r.handle b.row b.live) in
+      record {
+        row = b.row;
+        live = b.live;
+        at = stood.0;
+        owned = b.own;
+        fits = stood.1;
+        typed = stands.typed r.node.0 live ∙ ap (λ (n : ℕ). Some n) (got-typed frame fits r got);
+      } in
+      fine s.core (Owner.Load reading.load) [] (v.references x) good-one (λ r among. refl) (λ q.
+      let few = reads-once v.types frame.node_type frame.blob form.refs frame.got form.form form.kinds (subst GotOnce is ready.once).0 decoded.own
+      decoded.read q in
+      omega (arith, lawful.refers x decoded.own decoded.means (λ r. r.handle.0 == q), few))
+
+  pub only-chance : (e : Error) → Cause v s.core load reading e → IsOfChance e
+  only-chance e (by-chance chance) = chance
+  only-chance e (by-references frame below y frames decoded form fault) = absurd (cc (references-fine frame below y frames decoded form))
+  only-chance e (by-names frame below y frames decoded form fault) =
+      absurd (cc (none-named s.core (Owner.Load reading.load) [] (v.references y) (references-fine frame below y frames decoded form)))
+  only-chance e (by-handle node t h root fault) = absurd (grind (basics, ready.begun node t h root))
 
 begin-turn : {N B W : Type 0} (n : ℕ) (event : Event N B W) (reply : EventReply N B W) → IsBeginOf n event reply → turn_of event reply ≡ of_load n
 begin-turn n x1 x2 is = grind basics
@@ -259,45 +302,15 @@ module _ {N B W E : Type 0} (m : Seen N B W) (lawful : IsLawful m.values) (s s' 
       let now = (rw (open_load, e) at (x.readings l.0)) ∙ updated-at l.0 (Some (gone_on x.reading x.frames)) s.work.readings in
       let same = same_some _ _ (rw now at at) in rw (← same, ← number) after
 
-  references-fine : (l : LoadNumber) (reading : Reading) (load : OpenLoad) → LoadAsked l → reading_at (world_of s) l ≡ Some reading
-      → core.loads l.0 ≡ Some load → LoadReady core l load reading.frames
-      → (frame : Frame) (below : List Frame) (x : N) → reading.frames ≡ frame ∷ below
-      → (decoded : IsDecoded m.values frame x) → IsForm m.values frame → references_fault core (Owner.Load reading.load) [] (m.values.references x) ≡ None
-  unfolding is_in
-  references-fine l reading load asks at open_load ready frame below x is decoded form =
-      let a = going-of s trees on.readings reading (reading-stands (world_of s) on.whole.pager.whole l reading at) in
-      let fits = first-fits m.values.types load.key reading.node_type core.stored trees frame below
-      (rw is at (a.fits load (reading-open s on.whole l reading at open_load))) in
-      let front = subst (λ fs. Among fs frame) (sym is) (zero, refl) in
-      let good-one : (r : ArcRef) → Among (m.values.references x) r → IsReference core (Owner.Load reading.load) r = λ r among.
-      let got = (decodes lawful frame x ((asks reading at).types frame front) fits decoded).got r among in let b = ready.live frame r front got in
-      let own : b.row.owner ≡ Owner.Load reading.load = b.own ∙ ap (λ (k : LoadNumber). Owner.Load k) (sym (reading-number s on.whole l reading at)) in
-      let stood = (a.held frame r front got).is b.row b.live own in
-      let live = subst (λ (n : NodeNumber). 0 < held n.0 core.rows) stood.0 (row-held core r.handle b.row b.live) in
-      record {
-        row = b.row;
-        live = b.live;
-        at = stood.0;
-        owned = own;
-        fits = stood.1;
-        typed = on.stands.pager.typed r.node.0 live ∙ ap (λ (n : ℕ). Some n) (got-typed frame fits r got);
-      } in
-      fine core (Owner.Load reading.load) [] (m.values.references x) good-one (λ r among. refl) (λ q.
-      let few = reads-once m.values.types frame.node_type frame.blob form.refs frame.got form.form form.kinds (subst GotOnce is ready.once).0 decoded.own
-      decoded.read q in
-      omega (arith, lawful.refers x decoded.own decoded.means (λ r. r.handle.0 == q), few))
-
   sound : (l : LoadNumber) (reply : LoadReply N) → LoadSteps m.values (world_of s) l reply (world_of s') → LoadAsked l → Ready s l
       → (load : OpenLoad) (e : Error)
       → core.loads l.0 ≡ Some load → IsLoadOfPagedOut s load → reply.ended ≡ Some (LoadAnswer.Refused e) → IsOfChance e
   sound l reply x asks ready load e open_load paged ended =
-      let r = ready x.reading load x.at open_load in
-      elim (load-cause m lawful s s' trees trees on l reply x load e open_load paged ended) [
-        | by-chance chance ↦ chance
-        | by-references frame below y frames decoded form fault ↦ absurd
-            (cc (references-fine l x.reading load asks x.at open_load r frame below y frames decoded form))
-        | by-handle node t h root fault ↦ absurd (grind (basics, r.begun node t h root))
-      ]
+      let number = reading-number s on.whole l x.reading x.at in
+      let r = subst (λ k. LoadReady core k load x.reading.frames) (sym number) (ready x.reading load x.at open_load) in
+      let g = going-of s trees on.readings x.reading (reading-stands (world_of s) on.whole.pager.whole l x.reading x.at) in
+      only-chance m.values lawful s.pager trees on.stands.pager x.reading load (asks x.reading x.at).types r g
+      (reading-open s on.whole l x.reading x.at open_load) e (load-cause m lawful s s' trees trees on l reply x load e open_load paged ended)
 
   load-step-ready : (l : LoadNumber) (reply : EventReply N B W) → Happens m (world_of s) (Event.LoadStep l) reply (world_of s') → LoadAsked l → Ready s l
       → Ready s' l

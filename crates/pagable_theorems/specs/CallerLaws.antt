@@ -13,7 +13,11 @@ use Rattle.pagable_pager_spec.specs.{
   declared.pinning.Pinning.Pinning,
 }
 use Rattle.pagable_theorems.specs.PageOutLaws.{EachIsPagedOut, ItemAsksWell, LeavesPagedOut, ListAsksWell, NobodyWorks}
+<<<<<<< HEAD
 use Rattle.pagable_theorems.specs.TreeSteps.{RowsGo}
+=======
+use Rattle.pagable_theorems.specs.TreeSteps.{KeepsStored, RowsGo}
+>>>>>>> b80073a0c5fe96ef606ff3a6cf724351519bb41b
 use Rattle.std.specs.Prelude.{Err, Ok, Result, ℕ, ◌≡◌, ◌≤◌}
 
 -- a call of the pager: its step, and the value that it brings into memory
@@ -23,7 +27,7 @@ pub record IsCall {N E B W : Type 0} (m : Seen N B W) (s : PagerState N E) (call
   pub moves : Moves (CallBrings s.core call) s s'
   pub whole : IsPagerWhole m.values s'
 
--- each node keeps its tree, each handle its node, and nobody works
+-- each node keeps its tree, each handle its node, what was stored is stored, and nobody works
 pub record NodesStay {N E : Type 0} (v : Values N) (s : PagerState N E) (trees : ℕ → Tree) (s' : PagerState N E)
     : Type 0 where
   pub trees' : ℕ → Tree
@@ -33,6 +37,7 @@ pub record NodesStay {N E : Type 0} (v : Values N) (s : PagerState N E) (trees :
   pub nodes : s.core.last.node ≤ s'.core.last.node
   pub handles : s.core.last.handle ≤ s'.core.last.handle
   pub rows : RowsGo s.core.last.handle s.core.rows s'.core.rows
+  pub stored : KeepsStored s.core.stored s'.core.stored
 
 -- An operation that brings no value into memory, and after which nodes have stayed so, whatever trees the pager stood
 -- for: if nobody worked, and no value in memory was written later.

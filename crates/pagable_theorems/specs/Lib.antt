@@ -5,5 +5,6 @@ pub mod Witness
 pub mod DepthLaws
 pub mod PageOutLaws
 pub mod CallerLaws
+pub mod CallerFailures
 pub mod HeldLaws
 pub mod RefusalLaws

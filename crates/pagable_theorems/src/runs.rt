@@ -11,6 +11,7 @@ ghost use Rattle.pagable_pager_spec.specs.{
   World.{Frame, Seen},
 };
 ghost use Rattle.pagable_theorems.specs.{
+  CallerFailures.{ItemKeyIsShallow, ItemReportsDepth, PagedOutIsPinned, PinIsDeep, PublishedIsRead, ReadIsDeep},
   CallerLaws.{CallerLaw, PinnedAgainLaw},
   DepthLaws.{ClaimIsDeep, DepthIsHeight, HoldsAlong, LoadIsDeep, LoadOfPagedOutIsFaultless, UninterruptedLoadsAreSound},
   DepthLaws.WorkerReportsDepth,
@@ -167,4 +168,28 @@ pub fn page_out_laws<N: SeenAs<B, W>, B, W, E>()
 pub fn caller_laws<N: SeenAs<B, W>, B, W, E>()
     ensures trees_stay { CallerLaw E N.seen }
     ensures pinned_again { PinnedAgainLaw E N.seen }
+{}
+
+/// States the laws of failures of pins, reads and page-outs by one call, on a pager that nobody
+/// else uses, if keys, types and values are as the headline asks.
+///
+/// - What was paged out can be pinned again: if the cell of a loose handle of the caller's has a key
+///   that a page-out of an item or of the list published for the cell's node, a pin by the handle
+///   fails only if numbers or memory run out, or if the storage or the type's own reader fails. So
+///   it is whatever the page-out returned, and whatever operations follow it.
+/// - A read of such a key, as a value of the type for which it was published, fails only so too.
+/// - No page-out of an item on a new table returns a key if a path that is too long, or a value
+///   without a form (one that can't be encoded), is below the item.
+/// - Such a page-out fails with TooDeep, if none of its steps fails otherwise.
+/// - A pin fails with TooDeep only if the handle's cell has a key, and reading the key reaches a
+///   blob that is too deep, or one that enters a level too many. The law `depth_laws` says for
+///   which trees that is so.
+/// - A read of a key fails with TooDeep only if reading the key reaches such a blob.
+pub fn caller_failure_laws<N: SeenAs<B, W>, B, W, E>()
+    ensures paged_out_is_pinned { PagedOutIsPinned E N.seen }
+    ensures published_is_read { PublishedIsRead E N.seen }
+    ensures keys_are_shallow { ItemKeyIsShallow E N.seen }
+    ensures items_report_depth { ItemReportsDepth E N.seen }
+    ensures deep_pins_have_a_cause { PinIsDeep E N.seen }
+    ensures deep_reads_have_a_cause { ReadIsDeep E N.seen }
 {}
