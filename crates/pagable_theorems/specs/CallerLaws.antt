@@ -13,11 +13,7 @@ use Rattle.pagable_pager_spec.specs.{
   declared.pinning.Pinning.Pinning,
 }
 use Rattle.pagable_theorems.specs.PageOutLaws.{EachIsPagedOut, ItemAsksWell, LeavesPagedOut, ListAsksWell, NobodyWorks}
-<<<<<<< HEAD
-use Rattle.pagable_theorems.specs.TreeSteps.{RowsGo}
-=======
 use Rattle.pagable_theorems.specs.TreeSteps.{KeepsStored, RowsGo}
->>>>>>> b80073a0c5fe96ef606ff3a6cf724351519bb41b
 use Rattle.std.specs.Prelude.{Err, Ok, Result, ℕ, ◌≡◌, ◌≤◌}
 
 -- a call of the pager: its step, and the value that it brings into memory
