@@ -1,5 +1,5 @@
 -- Numbers of seven bits a byte, byte by byte.
-use Rattle.pagable_value_spec.specs.{Numbers.{AppendsVarint, Read, byte_at, varint, varint_at, varint_limit}, Outcomes.Extends, ReadSteps.◌>>=◌}
+use Rattle.pagable_value_spec.specs.{BasicValues.byte_array_form, Numbers.{AppendsVarint, Read, byte_at, varint, varint_at, varint_limit}, Outcomes.Extends, ReadSteps.◌>>=◌}
 use Rattle.std.proofs.{
   Common.{Err, List, Ok, add-one, ap, append_assoc, arith, drop, get_or, length, refl, suc, sym, zero, ℕ, [], ◌%◌, ◌*◌, ◌++◌, ◌+◌, ◌-◌, ◌/◌, ◌<◌, ◌∙◌, ◌∷◌},
   Common.{◌≡◌, ◌≢◌, ◌≤◌},
@@ -161,4 +161,38 @@ WritesOn_last {start} {here} {next} {number} {rest} w l e = record {
 
 pub ruleset reading = (ReadsOn_fits, ReadsOn_scale, ReadsOn_end, ReadsOn_bad, ReadsOn_short)
 
-pub ruleset writing = (WritesOn_none, WritesOn_last, Extends_twice, Extends_end)
+-- after `held` bytes, and before `limit`, there is room for the number's varint
+pub record HasRoomFor (held limit number : ℕ) : Type 0 where
+  pub room : (less : ℕ) × (number < varint_limit less 127) × (held + (less + 1) ≤ limit)
+
+pub HasRoomFor-64 : (held number : ℕ) → number ≤ 18446744073709551615 → HasRoomFor held (held + 10) number
+unfolding varint_limit
+HasRoomFor-64 held number small = record { room = (9, omega arith, omega arith) }
+
+pub HasRoomFor-128 : (held number : ℕ) → number ≤ 340282366920938463463374607431768211455 → HasRoomFor held (held + 19) number
+unfolding varint_limit
+HasRoomFor-128 held number small = record { room = (18, omega arith, omega arith) }
+
+pub HasRoomFor_more : {held next limit rest : ℕ} → HasRoomFor held limit rest → 128 ≤ rest → next ≡ held + 1 → HasRoomFor next limit (rest / 128)
+unfolding varint_limit
+HasRoomFor_more {held} {next} {limit} {rest} r l e = record { room = go r.room.0 r.room.1 r.room.2 }
+  where
+    go : (less : ℕ) → rest < varint_limit less 127 → held + (less + 1) ≤ limit
+        → (left : ℕ) × (rest / 128 < varint_limit left 127) × (next + (left + 1) ≤ limit)
+    go zero fits room = absurd (omega arith)
+    go (suc less) fits room = (less, omega arith, omega arith)
+
+pub HasRoomFor_one : {held limit rest : ℕ} → HasRoomFor held limit rest → held < limit
+HasRoomFor_one r = omega (arith, r.room.2)
+
+pub AppendsVarint_short : {start next : List ℕ} {number : ℕ} → number < 128 → next ≡ start ++ number ∷ [] → AppendsVarint start next number
+AppendsVarint_short {start} {next} {number} l e = WritesOn_last (WritesOn_none start number) l e
+
+-- a length, and the bytes that have it
+pub AppendsVarint_counted : {start front next : List ℕ} (added : List ℕ) → AppendsVarint start front (length added)
+    → length added ≤ 18446744073709551615 → next ≡ front ++ added → next ≡ start ++ byte_array_form added
+unfolding varint_limit
+AppendsVarint_counted {start} {front} {next} added w l e =
+    e ∙ ap (λ xs. xs ++ added) (w.appends 9 (omega arith)) ∙ append_assoc start (varint 9 (length added)) added
+
+pub ruleset writing = (WritesOn_none, WritesOn_last, Extends_twice, Extends_end, HasRoomFor_one, AppendsVarint_short)

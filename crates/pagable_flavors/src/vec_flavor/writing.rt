@@ -6,27 +6,89 @@ ghost use Rattle.pagable_value_spec.specs.{
   Numbers.{AppendsVarint, signed_form, unsigned_form},
   Outcomes.{Extends, IsOutOfMemory},
 };
-ghost use Rattle.std.specs.{Int.{w128, w16, w32, w64, w8}, Prelude.{IfErr, OnOk, length, ◌++◌, ◌≡◌}};
+ghost use Rattle.std.specs.{
+  Int.{w128, w16, w32, w64, w8},
+  Prelude.{IfErr, OnOk, length, vec_capacity, vec_len, ◌++◌, ◌+◌, ◌≡◌, ◌≤◌},
+};
 
 use super::{LONGEST, PagableVecFlavor};
 use crate::zigzag;
 use pagable_value_spec::Error;
 
+// Appends the shortest varint of the number to bytes that have room for ten more. It isn't inlined,
+// so that `push_varint` stays short in its callers.
+#[inline(never)]
+#[tactic(auto, using(crate::proofs::Varint::writing))]
+fn push_long_varint(bytes: &mut Vec<u8>, number: u64)
+    requires { vec_len bytes.old + 10 ≤ vec_capacity bytes.old }
+    ensures written { AppendsVarint bytes.old.items bytes.new.items number }
+    ensures grows { Extends bytes.old.items bytes.new.items }
+    ensures len { vec_len bytes.new ≤ vec_len bytes.old + 10 }
+    ensures capacity { vec_capacity bytes.new ≡ vec_capacity bytes.old }
+{
+    let mut rest = number;
+    while rest >= 128 {
+        bytes.push_reserved(128 + (rest % 128) as u8);
+        rest /= 128;
+    }
+    bytes.push_reserved(rest as u8);
+}
+
+// Does what `push_long_varint` does, with a quick path for a number of one byte.
+#[inline]
+#[tactic(auto, using(crate::proofs::Varint::writing))]
+fn push_varint(bytes: &mut Vec<u8>, number: u64)
+    requires { vec_len bytes.old + 10 ≤ vec_capacity bytes.old }
+    ensures written { AppendsVarint bytes.old.items bytes.new.items number }
+    ensures grows { Extends bytes.old.items bytes.new.items }
+    ensures len { vec_len bytes.new ≤ vec_len bytes.old + 10 }
+    ensures capacity { vec_capacity bytes.new ≡ vec_capacity bytes.old }
+{
+    if number >= 128 {
+        return push_long_varint(bytes, number);
+    }
+    bytes.push_reserved(number as u8);
+}
+
+// Does what `push_long_varint` does, for 128 bits and with room for 19.
+#[inline(never)]
+#[tactic(auto, using(crate::proofs::Varint::writing))]
+fn push_wide_varint(bytes: &mut Vec<u8>, number: u128)
+    requires { vec_len bytes.old + 19 ≤ vec_capacity bytes.old }
+    ensures written { AppendsVarint bytes.old.items bytes.new.items number }
+    ensures grows { Extends bytes.old.items bytes.new.items }
+{
+    let mut rest = number;
+    while rest >= 128 {
+        let low = (rest % 128) as u8;
+        bytes.push_reserved(128 + low);
+        rest /= 128;
+    }
+    bytes.push_reserved(rest as u8);
+}
+
+// Appends the length and the bytes of a byte array to bytes that have room for ten more and these.
+#[inline(never)]
+fn push_byte_array(bytes: &mut Vec<u8>, array: &[u8])
+    requires { vec_len bytes.old + (10 + length array.now) ≤ vec_capacity bytes.old }
+    ensures { bytes.new.items ≡ bytes.old.items ++ byte_array_form array.now }
+{
+    push_varint(bytes, array.len() as u64);
+    // with room for the array this can't fail
+    let _done = bytes.extend_from_slice(array);
+}
+
 impl PagableVecFlavor {
     // Appends the shortest varint of the number, which is the same for every width that the number
     // fits.
-    #[tactic(auto, using(crate::proofs::Varint::writing))]
+    #[inline]
     fn write_varint(&mut self, number: u64) -> Result<(), Error>
         ensures ok { OnOk result (AppendsVarint self.old self.new number) }
         ensures only { IfErr result IsOutOfMemory }
         ensures grows { Extends self.old self.new }
     {
-        let mut rest = number;
-        while rest >= 128 {
-            self.try_push(128 + (rest % 128) as u8)?;
-            rest /= 128;
-        }
-        self.try_push(rest as u8)?;
+        self.bytes.reserve(10)?;
+        push_varint(&mut self.bytes, number);
         Ok(())
     }
 
@@ -89,19 +151,14 @@ impl PagableVecFlavor {
     /// # Errors
     ///
     /// - `OutOfMemory` if the writer can't grow: some of the bytes may have been written.
-    #[tactic(auto, using(crate::proofs::Varint::writing))]
+    #[tactic(auto, unfolding(pagable_value_spec::specs::Numbers::varint_limit))]
     pub fn write_u128(&mut self, number: u128) -> Result<(), Error>
         ensures ok { OnOk result (self.new ≡ self.old ++ unsigned_form w128 number) }
         ensures only { IfErr result IsOutOfMemory }
         ensures grows { Extends self.old self.new }
     {
-        let mut rest = number;
-        while rest >= 128 {
-            let low = (rest % 128) as u8;
-            self.try_push(128 + low)?;
-            rest /= 128;
-        }
-        self.try_push(rest as u8)?;
+        self.bytes.reserve(19)?;
+        push_wide_varint(&mut self.bytes, number);
         Ok(())
     }
 
@@ -197,8 +254,7 @@ impl PagableVecFlavor {
     pub fn write_str(&mut self, text: &str) -> Result<(), Error>
         ensures { AppendsCounted (length text.now) (text_form text.now) result self.old self.new }
     {
-        self.write_len(text.len())?;
-        self.try_extend(text.as_bytes())
+        self.write_bytes(text.as_bytes())
     }
 
     /// Appends a byte array: its length, and its bytes.
@@ -207,11 +263,16 @@ impl PagableVecFlavor {
     ///
     /// - `TooLong` if it has more than 4,294,967,295 bytes: nothing is written.
     /// - `OutOfMemory` if the writer can't grow: some of the bytes may have been written.
+    #[inline]
     pub fn write_bytes(&mut self, bytes: &[u8]) -> Result<(), Error>
         ensures { AppendsCounted (length bytes.now) (byte_array_form bytes.now) result self.old self.new }
     {
-        self.write_len(bytes.len())?;
-        self.try_extend(bytes)
+        if bytes.len() > LONGEST {
+            return Err(Error::TooLong);
+        }
+        self.bytes.reserve(10 + bytes.len())?;
+        push_byte_array(&mut self.bytes, bytes);
+        Ok(())
     }
 
     /// Appends a character as a text of one character: how many bytes it has in UTF-8, and these.
