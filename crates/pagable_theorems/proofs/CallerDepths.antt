@@ -1,87 +1,109 @@
--- Page-outs, pins and reads by one call fail as too deep where they should: an item that leads down too long a path has no key, and a load fails so only by
--- what its key reads as.
+-- Page-outs, pins and reads by one call fail as too deep where they should: an item or an entry that leads down too long a path has no key, and a load fails so
+-- only by what its key reads as.
 use Rattle.pagable_pager_spec.specs.{
-  Access.{AccessState, ItemRun, LoadAsksWell, LoadRun, PinRun, ReadRun, item-is-walked, load-ends, load-fails, load-goes-on, load-is-refused, load-pins},
-  Access.{load-reads, no-worker, pin-is-refused, pins-at-once, reading-fails, reading-is-refused},
+  Access.{AccessState, EntryRun, ItemRun, ListRun, LoadAsksWell, LoadRun, PinRun, ReadRun, WorkerRun, entry-is-refused, entry-is-walked, fails, item-is-walked},
+  Access.{load-ends, load-fails, load-goes-on, load-is-refused, load-pins, load-reads, no-entry-worker, no-more, no-worker, pages, pin-is-refused},
+  Access.{pins-at-once, reading-fails, reading-is-refused, skips},
   Basics.{Identity, OptionalDataKey},
   Events.no_shelf,
   Loads.LoadDoes,
-  Order.{LeadsDown, ReadsTooDeep, goes-down, is-there},
+  Order.{LeadsDown, MetError, ReadsTooDeep, goes-down, is-there},
   Rightness.IsMetFailure,
   WorkerClaims.{IsFormlessTask, IsTooDeepTask},
+  Workers.first_todo,
   World.{SameShelf, type_at},
 }
 use Rattle.pagable_theorems.proofs.{
   CallerFailures.{goes-open, key-begins, load-begins, load_of, load_of_key},
   DepthBounds.task-is-fine,
-  LoadResults.{Under, at-answer, caller-feels, stepped},
+  LoadResults.{Under, after-then, at-answer, caller-feels, stepped},
+  Moments.same-shelf,
   NewClaims.first-met,
-  Operations.{Ended, Stands, Stays, ground, item-walks},
+  Operations.{Ended, Stands, Stays, entry-stays, entry-walks, ground, item-stays, item-walks, plain-stays, stays-same, stays-then},
   RefusalCauses.{begins-refused, fails-deep, pins-refused},
   SlotsGrow.{first-stands, some-none},
-  Words.{Blob, Err, Error, HandleNumber, HandleRow, HoldsSettled, IsLawful, IsPagerWhole, LoadAnswer, None, OpenLoad, Option, Owner, PagerStandsFor},
-  Words.{PagerState, Reading, Result, Seen, Slot, Some, Task, Tree, Types, WorkerAnswer, ap, arith, basics, false, inl, inr, key_at, nat_eq, of_item, refl},
-  Words.{row_at, subst, sym, ℕ, [], ◌∙◌, ◌≡◌, ◌⊎◌},
+  Words.{Action, Among, Blob, Call, Err, Error, HandleNumber, HandleRow, HoldsSettled, IsLawful, IsPagerWhole, List, LoadAnswer, None, OpenLoad, Option, Owner},
+  Words.{PagerStandsFor, PagerState, Reading, Reply, Result, Seen, Slot, Some, Task, Tree, Types, WorkerAnswer, ap, arith, basics, false, inl, inr, key_at},
+  Words.{nat_eq, refl, row_at, subst, sym, ℕ, [], ◌∙◌, ◌≡◌, ◌⊎◌},
 }
 use Rattle.pagable_theorems.specs.{
-  CallerFailures.{FailsAsDeepAlone, ItemKeyIsShallow, ItemReportsDepth, PinIsDeep, ReadIsDeep},
+  CallerFailures.{EachTells, EntryTells, ItemTells, ItemTellsDepth, ListTellsDepth, PinIsDeep, ReadIsDeep, TellsDepth},
   CallerLaws.{PinAsksWell, ReadAsksWell},
-  PageOutLaws.ItemAsksWell,
+  PageOutLaws.{EntryAsksWell, ItemAsksWell, ListAsksWell},
   RefusalLaws.IsOfPin,
   TreeSteps.KeepsStored,
 }
 
--- ---- an item
+-- ---- what a worker's answer tells, on a table on which nobody had failed
 
-module _ {N E B W : Type 0} (m : Seen N B W) (lawful : IsLawful m.values) {s : AccessState N E} {trees : ℕ → Tree} (at : Stands m.values s.pager trees)
-    (new : SameShelf no_shelf s.shelf) (item : W) where
-  abbrev task : Task
-  task = of_item (m.written_of item)
+module _ {N E B W : Type 0} (m : Seen N B W) {s : PagerState N E} {trees : ℕ → Tree} {task : Task} {answer : WorkerAnswer} {s' : AccessState N E}
+    (r : Ended m.values s trees answer task s') where
+  -- a task with a key leads down no path that is too long, and to no value that has no form
+  fine : (key : ℕ) → answer ≡ WorkerAnswer.Key key → (¬ IsTooDeepTask r.stays.trees' task) × (¬ IsFormlessTask m.values.types r.stays.trees' task)
+  fine key is = task-is-fine m.values (ground s'.pager r.stays.trees') s'.shelf r.slots task key (r.done key is)
 
-  abbrev IsDeep : (ℕ → Tree) → Type 0
-  IsDeep trees = IsTooDeepTask trees task ⊎ IsFormlessTask m.values.types trees task
-
-  -- an item with a key leads down no path that is too long, and to no value that has no form
-  fine : {answer : WorkerAnswer} {s' : AccessState N E} (r : Ended m.values s.pager trees answer task s') (key : ℕ) → answer ≡ WorkerAnswer.Key key
-      → (¬ IsTooDeepTask r.stays.trees' task) × (¬ IsFormlessTask m.values.types r.stays.trees' task)
-  fine {s' = s'} r key is = task-is-fine m.values (ground s'.pager r.stays.trees') s'.shelf r.slots task key (r.done key is)
-
-  shallow : {answer : WorkerAnswer} {s' : AccessState N E} (run : ItemRun m s (m.written_of item) answer s') → ItemAsksWell run → (key : ℕ)
-      → answer ≡ WorkerAnswer.Key key → (a : Stays m.values s.pager trees s'.pager) × (¬ IsTooDeepTask a.trees' task)
-      × (¬ IsFormlessTask m.values.types a.trees' task)
-  shallow (no-worker e s' why c same) asks key is = absurd (cc)
-  shallow (item-is-walked n steps answer mid s' starts run) asks key is =
-      let r = item-walks m lawful s at.well at.nobody new at.settled trees at.stands item starts run asks in
-      let f = fine r key is in (r.stays, f.0, f.1)
-
-  -- what it failed with it met, on a table on which nobody had failed
-  told : {answer : WorkerAnswer} {s' : AccessState N E} (run : ItemRun m s (m.written_of item) answer s') → ItemAsksWell run → FailsAsDeepAlone run
-      → (a : Stays m.values s.pager trees s'.pager) × (IsDeep a.trees' → answer ≡ WorkerAnswer.Failed Error.TooDeep)
-  told (no-worker e s' why c same) asks alone = absurd alone
-  told (item-is-walked n steps answer mid s' starts run) asks alone =
-      let r = item-walks m lawful s at.well at.nobody new at.settled trees at.stands item starts run asks in
-      let a = at-answer m n task (Unit {0}) run [] (first-stands s.shelf n task) (λ i slot there own. some-none there (new.slots i))
-      (λ c. (λ i slot there own. some-none there (new.slots i), first-met {W = W} n s.shelf [] task)) in
-      (r.stays, by a.1 answer (a.2 tt) r refl)
+  tells : {n : ℕ} {mid : AccessState N E} {steps : List (Action W)} → WorkerRun m n (first_todo task) mid steps answer s'
+      → ((i : Identity) → mid.shelf.slots i ≡ None) → TellsDepth m.values r.stays.trees' task steps answer
+  tells {n} {mid} {steps} run new =
+      let a = at-answer m n task (Unit {0}) run [] (first-stands mid.shelf n task) (λ i slot there own. some-none there (new i))
+      (λ c. (λ i slot there own. some-none there (new i), first-met {W = W} n mid.shelf [] task)) in
+      record { key_is_shallow = fine; deep_fails = λ alone deep. by a.1 answer (a.2 tt) refl alone deep }
     where
-      by : ((i : Identity) (slot : Slot) → s'.shelf.slots i ≡ Some slot → nat_eq slot.worker n ≡ false → s.shelf.slots i ≡ Some slot)
-          → (other : WorkerAnswer) → IsMetFailure s'.shelf n steps other → (r : Ended m.values s.pager trees answer task s') → other ≡ answer
-          → IsDeep r.stays.trees' → answer ≡ WorkerAnswer.Failed Error.TooDeep
-      by others (WorkerAnswer.Key key) met r is deep =
-          let f = fine r key (sym is) in elim deep [ inl long ↦ absurd (f.0 long) | inr formless ↦ absurd (f.1 formless) ]
-      by others (WorkerAnswer.Failed e) (step, among, met) r is deep = sym is ∙ ap WorkerAnswer.Failed (alone step e among met)
-      by others WorkerAnswer.AlreadyFailed (i, among, failed) r is deep =
-          absurd (some-none (others i failed.slot failed.claimed failed.of_another) (new.slots i))
+      by : ((i : Identity) (slot : Slot) → s'.shelf.slots i ≡ Some slot → nat_eq slot.worker n ≡ false → mid.shelf.slots i ≡ Some slot)
+          → (other : WorkerAnswer) → IsMetFailure s'.shelf n steps other → other ≡ answer
+          → ((step : Action W) (e : Error) → Among steps step → MetError step e → e ≡ Error.TooDeep)
+          → IsTooDeepTask r.stays.trees' task ⊎ IsFormlessTask m.values.types r.stays.trees' task → answer ≡ WorkerAnswer.Failed Error.TooDeep
+      by others (WorkerAnswer.Key key) met is alone deep =
+          let f = fine key (sym is) in elim deep [ inl long ↦ absurd (f.0 long) | inr formless ↦ absurd (f.1 formless) ]
+      by others (WorkerAnswer.Failed e) (step, among, met) is alone deep = sym is ∙ ap WorkerAnswer.Failed (alone step e among met)
+      by others WorkerAnswer.AlreadyFailed (i, among, failed) is alone deep =
+          absurd (some-none (others i failed.slot failed.claimed failed.of_another) (new i))
 
-pub item_key_is_shallow : {N B W : Type 0} (E : Type 0) (m : Seen N B W) → ItemKeyIsShallow E m
-item_key_is_shallow E m s s' item key run well nobody new asks lawful settled trees stands =
-    let (a, long, formless) = shallow m lawful (record { well = well; nobody = nobody; settled = settled; stands = stands }) new item run asks key refl in
-    (a.trees', a.after.same, a.after.stands, (long, formless))
+-- ---- items, and entries of the list
 
-pub item_reports_depth : {N B W : Type 0} (E : Type 0) (m : Seen N B W) → ItemReportsDepth E m
-item_reports_depth E m s s' item answer run well nobody new asks alone lawful settled trees stands =
-    let (a, deep) = told m lawful (record { well = well; nobody = nobody; settled = settled; stands = stands }) new item run asks alone in
-    (a.trees', a.after.same, a.after.stands, deep)
+module _ {N E B W : Type 0} (m : Seen N B W) (lawful : IsLawful m.values) where
+  item-tells : {s s' : AccessState N E} {trees : ℕ → Tree} {answer : WorkerAnswer} (item : W) → Stands m.values s.pager trees → SameShelf no_shelf s.shelf
+      → (run : ItemRun m s (m.written_of item) answer s') → ItemAsksWell run → (a : Stays m.values s.pager trees s'.pager) × ItemTells run a.trees'
+  item-tells item at new (no-worker e s' why c same) asks = ((item-stays m lawful item at new (no-worker e s' why c same) asks).0, tt)
+  item-tells {s} {trees = trees} item at new (item-is-walked n steps answer mid s' starts run) asks =
+      let r = item-walks m lawful s at.well at.nobody new at.settled trees at.stands item starts run asks in (r.stays, tells m r run (λ i. new.slots i))
+
+  entry-tells : {s s' : PagerState N E} {place : ℕ} {trees : ℕ → Tree} {answer : WorkerAnswer} → Stands m.values s trees → (run : EntryRun m s place answer s')
+      → EntryAsksWell run → (a : Stays m.values s trees s') × EntryTells run a.trees'
+  entry-tells {place = place} at (entry-is-refused h row t s' is none c) asks =
+      ((entry-stays m lawful {place = place} at (entry-is-refused h row t s' is none c) asks).0, tt)
+  entry-tells {place = place} at (no-entry-worker e s' why c) asks = ((entry-stays m lawful {place = place} at (no-entry-worker e s' why c) asks).0, tt)
+  entry-tells {s} {place = place} {trees = trees} at (entry-is-walked h row t n steps answer mid s' is kinds starts run) asks =
+      let r = entry-walks m lawful (record { pager = s; shelf = no_shelf }) at.well at.nobody (same-shelf refl) at.settled trees at.stands place h row t n
+      mid is kinds starts run asks in
+      (r.stays, tells m r run (λ i. refl))
+
+  each-tells : {i : ℕ} {s s' : PagerState N E} {answer : Result (Unit {0}) WorkerAnswer} {trees : ℕ → Tree} (run : ListRun m i s answer s')
+      → Stands m.values s trees → ListAsksWell run → Stays m.values s trees s' × EachTells run trees
+  unfolding ListAsksWell EachTells
+  each-tells (no-more s) at asks = (stays-same m lawful at, tt)
+  each-tells (skips i place key h told answer s mid low s' is has takes releases more) at asks =
+      let a = (plain-stays m lawful (Call.TakePending place) (Reply.TakenPending (Some h)) at takes takes.step tt tt).0 in
+      let b = (plain-stays m lawful (Call.Release h) (Reply.Done told) a.now releases releases.step tt tt).0 in
+      let r = each-tells more b.now asks in
+      let both = after-then a.after b.after in
+      (stays-then both r.0, (b.trees', both.same, both.stands, r.1))
+  each-tells (pages i place key h answer s mid s' is has entry more) at asks =
+      let (a, told) = entry-tells at entry asks.0 in
+      let r = each-tells more a.now asks.1 in
+      (stays-then a.after r.0, (a.trees', a.after.same, a.after.stands, told, r.1))
+  each-tells (fails i place h e s s' is has entry) at asks =
+      let (a, told) = entry-tells at entry asks in (a, (a.trees', a.after.same, a.after.stands, told))
+
+pub item_tells_depth : {N B W : Type 0} (E : Type 0) (m : Seen N B W) → ItemTellsDepth E m
+item_tells_depth E m s s' item answer run well nobody new asks lawful settled trees stands =
+    let (a, told) = item-tells m lawful item (record { well = well; nobody = nobody; settled = settled; stands = stands }) new run asks in
+    (a.trees', a.after.same, a.after.stands, told)
+
+pub list_tells_depth : {N B W : Type 0} (E : Type 0) (m : Seen N B W) → ListTellsDepth E m
+list_tells_depth E m i s s' answer run well nobody asks lawful settled trees stands =
+    let r = each-tells m lawful run (record { well = well; nobody = nobody; settled = settled; stands = stands }) asks in
+    (r.0.trees', r.0.after.same, r.0.after.stands, r.1)
 
 -- ---- a load
 

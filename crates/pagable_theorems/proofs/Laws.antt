@@ -1,6 +1,6 @@
 -- The lemmas by which the laws of `src/` are proved, by file.
 use Rattle.pagable_theorems.proofs.{
-  CallerDepths.{item_key_is_shallow, item_reports_depth, pin_is_deep, read_is_deep},
+  CallerDepths.{item_tells_depth, list_tells_depth, pin_is_deep, read_is_deep},
   CallerFailures.{paged_out_is_pinned, published_is_read},
   Callers.caller_law,
   CascadeWitness.fall_laws,
@@ -64,8 +64,8 @@ pub ruleset world_laws = (
   caller_law,
   paged_out_is_pinned,
   published_is_read,
-  item_key_is_shallow,
-  item_reports_depth,
+  item_tells_depth,
+  list_tells_depth,
   pin_is_deep,
   read_is_deep,
   held_law,

@@ -2,25 +2,25 @@
 -- which page-outs, pins and reads fail as too deep.
 use Rattle.pagable_pager_spec.specs.{
   Access.{AccessState, EntryRun, ItemRun, LeadsToTrees, ListRun, PinRun, ReadRun, entry-is-walked, fails},
-  Access.{item-is-walked, no-more, no-worker, pages, skips},
+  Access.{item-is-walked, no-more, pages, skips},
   Basics.{Among, Error, HandleNumber, Identity, OptionalDataKey, Tree, type_of},
-  Events.no_shelf,
+  Events.{entry_task, no_shelf},
   Kinds.is_loose,
   Order.{MetError, ReadsTooDeep},
-  Pager.{IsPagerWhole, PagerStandsFor, PagerState},
+  Pager.{IsPagerWhole, PagerStandsFor, PagerState, SameTrees},
   Refusals.Owns,
   Runs.HoldsSettled,
   WorkerClaims.{IsFormlessTask, IsOfChance, IsTooDeepTask},
   Workers.IsPublished,
-  World.{IsLawful, SameShelf, Seen, Written, key_at, of_item, row_at, type_at},
+  World.{IsLawful, SameShelf, Seen, Task, Values, Written, key_at, of_item, row_at, type_at},
   declared.events.{Action.Action, WorkerAnswer.WorkerAnswer},
   declared.handle_row.{HandleRow.HandleRow, Owner.Owner},
 }
 use Rattle.pagable_theorems.specs.{
   CallerLaws.{AskWell, Operation, Operations, PinAsksWell, ReadAsksWell, goes-on, is-done, pages-item, pages-list},
-  PageOutLaws.{ItemAsksWell, NobodyWorks},
+  PageOutLaws.{ItemAsksWell, ListAsksWell, NobodyWorks},
 }
-use Rattle.std.specs.Prelude.{Err, Result, Some, ℕ, ◌≡◌, ◌⊎◌}
+use Rattle.std.specs.Prelude.{Err, List, Result, Some, ℕ, ◌≡◌, ◌⊎◌}
 
 -- ---- which keys page-outs have published, whatever they answered
 
@@ -77,33 +77,56 @@ PublishedIsRead {N} {B} {W} E m = (s later s' : PagerState N E) (trees : ℕ →
 
 -- ---- paths that are too long, and values without a form
 
--- The law of keys of items: if a page-out on a new table returns a key, no path of too many references leads down from
--- the item, and no value below it is without a form. It speaks of the trees afterwards, as the next one does: they are
--- the same as before for each node that there was.
-abbrev pub ItemKeyIsShallow : {N B W : Type 0} → (E : Type 0) → Seen N B W → Type 0
-ItemKeyIsShallow {N} {B} {W} E m = (s s' : AccessState N E) (item : W) (key : ℕ)
-    (run : ItemRun m s (m.written_of item) (WorkerAnswer.Key key) s') → IsPagerWhole m.values s.pager
-    → NobodyWorks s.pager.core → SameShelf no_shelf s.shelf → ItemAsksWell run
-    → LeadsToTrees m.values s.pager s'.pager (λ trees trees'. (¬ IsTooDeepTask trees' (of_item (m.written_of item)))
-    × (¬ IsFormlessTask m.values.types trees' (of_item (m.written_of item))))
+-- What a worker's answer tells of its task, by the steps that it made. If it is a key, no path of too many references
+-- leads down from the task, and no value below it is without a form. If such a path or value is below it, and no step
+-- failed except as too deep, it is that the worker failed as too deep.
+pub record TellsDepth {N W : Type 0} (v : Values N) (trees : ℕ → Tree) (task : Task) (steps : List (Action W))
+    (answer : WorkerAnswer) : Type 0 where
+  pub key_is_shallow : (key : ℕ) → answer ≡ WorkerAnswer.Key key → (¬ IsTooDeepTask trees task)
+      × (¬ IsFormlessTask v.types trees task)
+  pub deep_fails : ((step : Action W) (e : Error) → Among steps step → MetError step e → e ≡ Error.TooDeep)
+      → IsTooDeepTask trees task ⊎ IsFormlessTask v.types trees task → answer ≡ WorkerAnswer.Failed Error.TooDeep
 
--- no step of the page-out failed except as too deep, and its worker had begun
-abbrev pub FailsAsDeepAlone : {N E B W : Type 0} {m : Seen N B W} {s s' : AccessState N E} {item : Written}
-    {answer : WorkerAnswer} → ItemRun m s item answer s'
-    → Type 0
-FailsAsDeepAlone {W = W} (item-is-walked n steps answer mid s' starts run) =
-    (step : Action W) (e : Error) → Among steps step → MetError step e → e ≡ Error.TooDeep
-FailsAsDeepAlone (no-worker e s' why calls same) = ⊥
+-- of a page-out of an item, if its worker began; below: of a page-out of an entry
+abbrev pub ItemTells : {N E B W : Type 0} {m : Seen N B W} {s s' : AccessState N E} {item : Written}
+    {answer : WorkerAnswer} → ItemRun m s item answer s' → (ℕ → Tree) → Type 0
+ItemTells {m = m} {item = item} (item-is-walked n steps answer mid s' starts run) trees =
+    TellsDepth m.values trees (of_item item) steps answer
+ItemTells run trees = Unit {0}
 
--- The law of items that are too deep: if such a path, or a value without a form, is below the item, and no step fails
--- otherwise, the page-out fails as too deep.
-abbrev pub ItemReportsDepth : {N B W : Type 0} → (E : Type 0) → Seen N B W → Type 0
-ItemReportsDepth {N} {B} {W} E m = (s s' : AccessState N E) (item : W) (answer : WorkerAnswer)
+abbrev pub EntryTells : {N E B W : Type 0} {m : Seen N B W} {s s' : PagerState N E} {place : ℕ}
+    {answer : WorkerAnswer} → EntryRun m s place answer s' → (ℕ → Tree) → Type 0
+EntryTells {m = m} (entry-is-walked h row t n steps answer mid s' is kinds starts run) trees =
+    TellsDepth m.values trees (entry_task h row t) steps answer
+EntryTells run trees = Unit {0}
+
+-- so it is of each entry that a page-out of the list comes to; nodes keep their trees from one entry to the next
+unfoldable pub EachTells : {N E B W : Type 0} {m : Seen N B W} {i : ℕ} {s s' : PagerState N E}
+    {answer : Result (Unit {0}) WorkerAnswer}
+    → ListRun m i s answer s' → (ℕ → Tree) → Type 0
+EachTells (no-more s) trees = Unit {0}
+EachTells {m = m} (skips i place key h told answer s mid low s' is has takes releases more) trees =
+    (trees' : ℕ → Tree) × SameTrees s.core.last.node trees trees' × PagerStandsFor m.values low trees'
+    × EachTells more trees'
+EachTells {m = m} (pages i place key h answer s mid s' is has entry more) trees =
+    (trees' : ℕ → Tree) × SameTrees s.core.last.node trees trees' × PagerStandsFor m.values mid trees'
+    × EntryTells entry trees' × EachTells more trees'
+EachTells {m = m} (fails i place h e s s' is has entry) trees =
+    (trees' : ℕ → Tree) × SameTrees s.core.last.node trees trees' × PagerStandsFor m.values s' trees'
+    × EntryTells entry trees'
+
+-- The laws of items, each on a new table, and of the list. They speak of the trees after each page-out, which are the
+-- same as before for each node that there was.
+abbrev pub ItemTellsDepth : {N B W : Type 0} → (E : Type 0) → Seen N B W → Type 0
+ItemTellsDepth {N} {B} {W} E m = (s s' : AccessState N E) (item : W) (answer : WorkerAnswer)
     (run : ItemRun m s (m.written_of item) answer s') → IsPagerWhole m.values s.pager
-    → NobodyWorks s.pager.core → SameShelf no_shelf s.shelf → ItemAsksWell run → FailsAsDeepAlone run
-    → LeadsToTrees m.values s.pager s'.pager (λ trees trees'. IsTooDeepTask trees' (of_item (m.written_of item))
-    ⊎ IsFormlessTask m.values.types trees' (of_item (m.written_of item))
-    → answer ≡ WorkerAnswer.Failed Error.TooDeep)
+    → NobodyWorks s.pager.core → SameShelf no_shelf s.shelf → ItemAsksWell run
+    → LeadsToTrees m.values s.pager s'.pager (λ trees trees'. ItemTells run trees')
+
+abbrev pub ListTellsDepth : {N B W : Type 0} → (E : Type 0) → Seen N B W → Type 0
+ListTellsDepth {N} {B} {W} E m = (i : ℕ) (s s' : PagerState N E) (answer : Result (Unit {0}) WorkerAnswer)
+    (run : ListRun m i s answer s') → IsPagerWhole m.values s → NobodyWorks s.core → ListAsksWell run
+    → LeadsToTrees m.values s s' (λ trees trees'. EachTells run trees)
 
 -- The law of pins: a pin fails as too deep only if the cell of its handle has a key, and reading the key reaches a blob
 -- that is too deep, or one that enters a level too many.

@@ -11,7 +11,7 @@ ghost use Rattle.pagable_pager_spec.specs.{
   World.{Frame, Seen},
 };
 ghost use Rattle.pagable_theorems.specs.{
-  CallerFailures.{ItemKeyIsShallow, ItemReportsDepth, PagedOutIsPinned, PinIsDeep, PublishedIsRead, ReadIsDeep},
+  CallerFailures.{ItemTellsDepth, ListTellsDepth, PagedOutIsPinned, PinIsDeep, PublishedIsRead, ReadIsDeep},
   CallerLaws.{CallerLaw, PinnedAgainLaw},
   DepthLaws.{ClaimIsDeep, DepthIsHeight, HoldsAlong, LoadIsDeep, LoadOfPagedOutIsFaultless, UninterruptedLoadsAreSound},
   DepthLaws.WorkerReportsDepth,
@@ -179,8 +179,8 @@ pub fn caller_laws<N: SeenAs<B, W>, B, W, E>()
 ///   it is whatever the page-out returned, and whatever operations follow it.
 /// - A read of such a key, as a value of the type for which it was published, fails only so too.
 /// - No page-out of an item on a new table returns a key if a path that is too long, or a value
-///   without a form (one that can't be encoded), is below the item.
-/// - Such a page-out fails with TooDeep, if none of its steps fails otherwise.
+///   without a form (one that can't be encoded), is below the item. It fails with TooDeep, if none
+///   of its steps fails otherwise. So it is with each entry of the list that is paged out.
 /// - A pin fails with TooDeep only if the handle's cell has a key, and reading the key reaches a
 ///   blob that is too deep, or one that enters a level too many. The law `depth_laws` says for
 ///   which trees that is so.
@@ -188,8 +188,8 @@ pub fn caller_laws<N: SeenAs<B, W>, B, W, E>()
 pub fn caller_failure_laws<N: SeenAs<B, W>, B, W, E>()
     ensures paged_out_is_pinned { PagedOutIsPinned E N.seen }
     ensures published_is_read { PublishedIsRead E N.seen }
-    ensures keys_are_shallow { ItemKeyIsShallow E N.seen }
-    ensures items_report_depth { ItemReportsDepth E N.seen }
+    ensures items_tell_depth { ItemTellsDepth E N.seen }
+    ensures entries_tell_depth { ListTellsDepth E N.seen }
     ensures deep_pins_have_a_cause { PinIsDeep E N.seen }
     ensures deep_reads_have_a_cause { ReadIsDeep E N.seen }
 {}
