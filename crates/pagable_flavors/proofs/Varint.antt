@@ -1,5 +1,10 @@
 -- Numbers of seven bits a byte, byte by byte.
-use Rattle.pagable_value_spec.specs.{BasicValues.byte_array_form, Numbers.{AppendsVarint, Read, byte_at, varint, varint_at, varint_limit}, Outcomes.Extends, ReadSteps.◌>>=◌}
+use Rattle.pagable_value_spec.specs.{
+  BasicValues.byte_array_form,
+  Numbers.{AppendsVarint, Read, byte_at, varint, varint_at, varint_limit},
+  Outcomes.Extends,
+  ReadSteps.◌>>=◌,
+}
 use Rattle.std.proofs.{
   Common.{Err, List, Ok, add-one, ap, append_assoc, arith, drop, get_or, length, refl, suc, sym, zero, ℕ, [], ◌%◌, ◌*◌, ◌++◌, ◌+◌, ◌-◌, ◌/◌, ◌<◌, ◌∙◌, ◌∷◌},
   Common.{◌≡◌, ◌≢◌, ◌≤◌},
