@@ -37,7 +37,7 @@ import original_crate  # noqa: E402
 import pictures  # noqa: E402
 import speed_table  # noqa: E402
 from build import built as built_here, need  # noqa: E402
-from speed_table import OURS, ROWS, SIDES, VALUES  # noqa: E402
+from speed_table import OURS, ROWS, VALUES  # noqa: E402
 
 USAGE = "compare_speed.py ORIGINAL WORK [--rounds N] [--instructions] [--rows ROW,..] [--print], or --draw"
 CPU = pathlib.Path("/proc/cpuinfo")

@@ -15,7 +15,6 @@ copy crates, build programs, and run tests that aren't proved, by it.
 A copy has the crates of tools/crates too, which are built unproved alone. Their files are named X.rattle, as those of
 this folder are, since the gate stops at a file X.rt that it doesn't check.
 """
-import os
 import pathlib
 import re
 import shutil
