@@ -20,6 +20,7 @@ import sys
 import tempfile
 import types
 from unittest import mock
+from xml.etree import ElementTree
 
 HERE = pathlib.Path(__file__).resolve().parent
 TOP = HERE.parent
@@ -27,6 +28,7 @@ DATA = TOP / "tools" / "crates" / "rows" / "data"
 sys.dont_write_bytecode = True
 FOLDERS = ("hostile", "file_blobs", "threads", "programs", "failures", "speed", ".")
 sys.path[:0] = [str(HERE / folder) for folder in FOLDERS]
+import as_proved  # noqa: E402
 import asking  # noqa: E402
 import edits  # noqa: E402
 import fakes  # noqa: E402
@@ -39,6 +41,7 @@ import naming  # noqa: E402
 import nightly  # noqa: E402
 import original_rows  # noqa: E402
 import pagectl  # noqa: E402
+import pictures  # noqa: E402
 import plain_pager  # noqa: E402
 import plain_rows  # noqa: E402
 import plain_script  # noqa: E402
@@ -46,6 +49,7 @@ import plain_values  # noqa: E402
 import rows  # noqa: E402
 import shared  # noqa: E402
 import speed_sums  # noqa: E402
+import speed_table  # noqa: E402
 import sweeps  # noqa: E402
 import table  # noqa: E402
 import tests  # noqa: E402
@@ -305,16 +309,135 @@ def speed(work):
         yield "no row wants: maps", told(speed_sums.check, wrong)
 
 
+# Two sources with marks, and LLVM's code of what they have.
+MARKED = """#[inline(always)]
+pub fn spin_loop() {}
+
+impl<T> Iterator for Items<T> {
+    #[cold]
+    #[inline(never)]
+    fn next(&mut self) -> Option<T> {}
+}
+
+impl<T> Iterator for &Others<T> {
+    fn next(&mut self) -> Option<T> {}
+}
+"""
+CODE = """define internal void @"core::hint::spin_loop"() #0 {
+start:
+  ret void
+}
+define internal void @"core::hint::ItemsIterator::next::<i8,20'core::Byte{}>"(ptr noundef %a0) #0 {
+define internal void @"core::hint::RefOthersIterator::next"(ptr noundef %a0) #0 {
+"""
+
+
+def marks(work):
+    """Code whose functions or whose `spin_loop` have another form, so that no mark or no pause is put in."""
+    file = work / "core" / "src" / "hint.rt"
+    file.parent.mkdir(parents=True)
+    file.write_text(MARKED, encoding="utf-8")
+    lines = as_proved.as_proved(CODE, [work]).split("\n")
+    wanted = ["() alwaysinline #0 {", "start:", f"  call void @{as_proved.PAUSE}()", "  ret void", "}"]
+    wanted += ["(ptr noundef %a0) cold noinline #0 {", "(ptr noundef %a0) #0 {"]
+    yield "", "".join(f"{line}\n" for line, end in zip(lines, wanted) if not line.endswith(end))
+    for old, new, why in [(" #0 {", " #0 !dbg {", "no function of this code has"), ("start:", "", "no pause was put")]:
+        yield why, told(as_proved.as_proved, CODE.replace(old, new), [work])
+
+
+def in_two_rounds(compare_speed, runs):
+    """The best times of two rows where the programs answer so, and in which order they were asked."""
+    asked = []
+
+    def once(row, call):
+        asked.append(f"{row.name} {call[0]}")
+        return runs[call[0]]
+
+    with mock.patch.object(compare_speed, "once", once):
+        rows = compare_speed.chosen("items,loads")
+        ended = compare_speed.in_rounds(rows, {side: side for side in runs}, None, 2)
+    return compare_speed.best_of(ended, runs), "; ".join(asked)
+
+
+def by_callgrind(compare_speed, counts):
+    """The instructions of the parts of a row where callgrind writes these counts."""
+    def run(words, **_):
+        for place, count in enumerate(counts, 1):
+            pathlib.Path(f"{words[3].partition('=')[2]}.{place}").write_text(f"events: Ir\nsummary: {count}\n")
+        return types.SimpleNamespace(stdout="items 2000 out 1.0 in 1.0", returncode=0)
+
+    with mock.patch.object(compare_speed.subprocess, "run", run):
+        return compare_speed.counted(compare_speed.chosen("items")[0], ["here"])
+
+
 def compare(_):
-    """A row that isn't there, programs that come to other sums, and a program that fails."""
+    """A row that isn't there, other parts, programs that come to other sums, one that fails, and counts that lack."""
     compare_speed = module_at("compare_speed", HERE / "compare_speed.py")
     yield "no row is called celsl", told(compare_speed.chosen, "cells,celsl")
     yield "", told(compare_speed.chosen, "cells,shared")
+    (items,) = compare_speed.chosen("items")
+    for parts, why in [("out 1 in 1 sum 7", ""), ("in 1 out 1", "tells the parts in, out")]:
+        yield why, told(compare_speed.parts_of, items, parts.split())
     others = [("7", "8", "different keys"), ("7", None, "different keys"), (None, "8", "fails")]
     for ours, theirs, why in [("7", "7", ""), *others]:
-        runs = {"here": ours and ({"out": 1.0}, 9, ours), "there": ({"out": 2.0}, 9, theirs)}
-        with mock.patch.object(compare_speed, "once", lambda call: runs[call[0]]):
-            yield why, told(compare_speed.measured, ["here", "there"], None, "cells", 1_000, 2)
+        runs = {"here": ours and ({"out": 1.0}, 9, ours), "soft": ({"out": 2.0}, 9, theirs)}
+        yield why, told(in_two_rounds, compare_speed, runs)
+    a_run, first = ({"out": 1.0}, 9, "7"), "items here; items soft; loads here; "
+    for soft, second in [(a_run, "items here; items soft; loads here"), (None, "items here; loads here")]:
+        _, asked = in_two_rounds(compare_speed, {"here": a_run, "soft": soft})
+        yield "", "" if asked == first + second else asked
+    yield "", "" if by_callgrind(compare_speed, [5, 10, 6, 20, 7]) == ({"out": 10, "in": 20}, None) else "other counts"
+    yield "doesn't look at the clock", told(by_callgrind, compare_speed, [5, 10, 6])
+    are_told = [compare_speed.has_sha(f"flags\t: fpu {flag}\n") for flag in ("sha_ni", "ssse3")]
+    yield "", "" if are_told == [True, False] else "SHA instructions"
+
+
+def page_of(sides):
+    """A page with a table of these sides, and its times."""
+    times = lambda row: ({part: row.count * 7e-5 for part in row.parts}, 1024)
+    has = lambda row, side: side == "here" or row.name not in speed_table.OURS
+    best = {row: {side: times(row) if has(row, side) else None for side in sides} for row in speed_table.ROWS}
+    begin, end = speed_table.TIMES
+    return f"{begin}\n2026-11-30, a machine; built.\n\n{speed_table.times_table(best, sides)}\n{end}\n", best
+
+
+def table_of_speed(_):
+    """A written table that is read otherwise, and one that lacks a row, a column or its end or has another row."""
+    for sides in (["here", "soft"], list(speed_table.SIDES)):
+        page, best = page_of(sides)
+        read = speed_table.table_in(page)
+        yield "", "" if (read.sides, read.above) == (sides, "2026-11-30, a machine; built.") else f"{read[:2]}"
+        for (name, count, part), its in read.times.items():
+            by = best[speed_table.Row(name, count, next(row.parts for row in best if row.name == name))]
+            is_alike = all(abs((its[side] or 0) - (by[side][0][part] if by[side] else 0)) < 1e-9 for side in sides)
+            yield "", "" if is_alike else f"{name} at {count}, {part}: {its}"
+    line = re.search(r"(?m)^\| `tree` \| 19 \| in \|.*\n", page)[0]
+    higher = line + line.replace("19", "20")
+    for old, new, why in [
+        (line, "", "no row: `tree` at 19, in"), (line, higher, "another row: `tree` at 20, in"),
+        ("| Here |", "| There |", "no column `Here`"), (speed_table.TIMES[1], "", "0 times"),
+    ]:
+        yield why, told(speed_table.table_in, page.replace(old, new))
+
+
+def drawing(_):
+    """Pictures beside a table that has another time, and a table that lacks a row."""
+    page = speed_table.PAGE.read_text(encoding="utf-8")
+    yield "", "".join(pictures.stale(page, pictures.FOLDER))
+    for row, others in [
+        ("`maps` | 400 | read", []), ("`cells` | 1,000 | out", ["speed_by_size.svg"]),
+        ("`locked_calls/4` | 100,000 | pin", ["speed_by_threads.svg"]),
+    ]:
+        slower = page.replace(f"| {row} | ", f"| {row} | 9")
+        found = list(pictures.stale(slower, pictures.FOLDER))
+        yield "speed_by_row.svg", found[0] if found == ["speed_by_row.svg", *others] else f"{found}"
+        name, count, part = row.split(" | ")
+        lacking = re.sub(rf"(?m)^\| {re.escape(row)} \|.*\n", "", page)
+        yield f"no row: {name} at {count}, {part}", told(pictures.drawn, lacking)
+    for text in pictures.drawn(page_of(["here", "soft"])[0]).values():
+        names = [part.tag.rpartition("}")[2] for part in ElementTree.fromstring(text)]
+        yield "", "" if names[:3] == ["title", "desc", "rect"] else f"{names[:3]}"
+        yield "Both sides have SHA-256 in software", text
 
 
 # ---- failures
@@ -576,6 +699,7 @@ TOOLS = {
     "check_text.py": check_text, "edits.py": edits_of_bodies, "wrong_bodies.py": bodies, "threads": threads,
     "tests.py": of_tests, "plain_pager.py": pager, "plain_rows.py": pager_rows, "plain_values.py": values,
     "plain_script.py": script, "original_rows.py": original, "speed_sums.py": speed, "compare_speed.py": compare,
+    "speed/as_proved.py": marks, "speed/speed_table.py": table_of_speed, "speed/pictures.py": drawing,
     "failures/driver.py": driver, "failures/shared.py": of_shared, "failures/hostile.py": hostile_input,
     "failures/middle.py": rows_in_the_middle, "failures/naming.py": names, "failures/table.py": refusals,
     "failures/pagectl.py": scripts, "fuzz.py": fuzzed, "programs": programs, "gate.py": of_gate,

@@ -6,15 +6,15 @@ own.
     tools/speed/build.py --crate NAME PROGRAM     # writes the program of a crate of this repository as PROGRAM
 
 A proved program is compiled by `rt run`, which proves it first. `rt try` compiles without a proof, but puts checks of
-its own into the code, fills each new variable, and links a sanitizer. So here the compiler that `rt try` calls is this
-script: it takes all that out of the code, and compiles as `rt run` does, at -O3 for x86-64-v2. The result is as fast as
-the proved program, within what one can measure. Other tools copy crates, build programs, and run tests that aren't
-proved, by it.
+its own into the code, fills each new variable, and links a sanitizer; it drops what the sources say of inlining, and
+its `spin_loop` does nothing. So here the compiler that `rt try` calls is this script: it takes out of the code what was
+added and puts in what was left out (as_proved.py), and compiles as `rt run` does, at -O3 for x86-64-v2. The result is
+about as fast as the proved program: a loop of SHA-256 takes 2 % more instructions, and has as many pauses. Other tools
+copy crates, build programs, and run tests that aren't proved, by it.
 
 A copy has the crates of tools/crates too, which are built unproved alone. Their files are named X.rattle, as those of
 this folder are, since the gate stops at a file X.rt that it doesn't check.
 """
-import os
 import pathlib
 import re
 import shutil
@@ -22,12 +22,13 @@ import subprocess
 import sys
 import tempfile
 
+sys.dont_write_bytecode = True
+from as_proved import as_proved  # noqa: E402
+
 HERE = pathlib.Path(__file__).resolve().parent
 TOP = HERE.parent.parent
 USES = "pagable pagable_testkit pagable_value_rows anyhow indexmap"
 LEFT_BEHIND = shutil.ignore_patterns("out", "stdin", "stdout", "args", "list.txt")
-# What `rt try` adds: bytes put into new variables, and calls of its checks.
-ADDED = re.compile(r"(?m)^ *call void @(?:llvm\.memset\.p0\.i64\(ptr %\S+, i8 -86,|\"rattle-llvm-checks::).*\n")
 # What is told of a tool that isn't there.
 NEEDED = {
     "cargo": "no cargo: install Rust's toolchain",
@@ -35,12 +36,13 @@ NEEDED = {
     "git": "no git: install it",
     "rt": "no rt: put the toolchain's bin into PATH",
     "time": "no GNU time: install it",
+    "valgrind": "no valgrind: install it",
 }
 RESULT = re.compile(r"(?m)^test result: (ok|FAILED)\. (\d+) passed; (\d+) failed; 0 ignored")
 FAST = ["-Xclang", "-fmerge-functions", "-mllvm", "-mergefunc-use-aliases", "-fno-vectorize", "-fno-slp-vectorize"]
 
 
-def compiled(kit, level, words):
+def compiled(kit, work, level, words):
     """Compiles for `rt try`, in the folder in which it calls the compiler."""
     clang = ["clang", *[word for word in words if word != "-fsanitize=address"]]
     real = kit / "toolchain" / "bin" / "clang"
@@ -48,10 +50,8 @@ def compiled(kit, level, words):
     plain = ["-x", "ir", module, "-S", "-emit-llvm", "-Xclang", "-disable-llvm-passes", "-O0", "-o", "module.ll"]
     text = [*clang[: clang.index("-c")], *plain]
     subprocess.run(text, executable=real, check=True)
-    code = ADDED.sub("", pathlib.Path("module.ll").read_text())
-    code = code.replace("sanitize_address", "").replace('"frame-pointer"="all"', '"frame-pointer"="none"')
-    code = code.replace('"target-cpu"="x86-64"', '"target-cpu"="x86-64-v2"')
-    pathlib.Path("module.ll").write_text(code)
+    file = pathlib.Path("module.ll")
+    file.write_text(as_proved(file.read_text(), [kit / "rattle", work / "repository" / "crates"]))
     clang[clang.index(module)] = "module.ll"
     fast = []
     for word in clang:
@@ -187,7 +187,8 @@ def compiled_in(work, source, level="-O3"):
 
 def main():
     if sys.argv[1] == "--clang":
-        sys.exit(compiled(pathlib.Path(sys.argv[2]), sys.argv[4], sys.argv[5:]))
+        kit, work, level, *words = sys.argv[2:]
+        sys.exit(compiled(pathlib.Path(kit), pathlib.Path(work), level, words))
     if sys.argv[1] == "--ld.lld":
         sys.exit(linked(pathlib.Path(sys.argv[2]), pathlib.Path(sys.argv[3]), sys.argv[5:]))
     if sys.argv[1] == "--crate":
