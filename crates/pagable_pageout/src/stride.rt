@@ -22,9 +22,7 @@ use crate::step::{end_if_answered, step};
 use crate::tasks::{
     ClaimedNode, DoneReference, StepResult, Task, Turn, WaitingValue, referenced_identity,
 };
-use crate::turns::{
-    claim, make_done, store, store_node, task_after_claim, turn_after_store, write_claimed,
-};
+use crate::turns::{claim, store, store_node, task_after_claim, turn_after_store, write_claimed};
 use crate::{ClaimResult, Claims};
 use pagable_codec::{Env, NodeSet};
 use pagable_load::{Reading, TakenValue, WorkerAccess};
@@ -223,8 +221,8 @@ fn store_and_publish_node<E: Env<Node: NodeSet<E>>, A: WorkerAccess<E>, T: Claim
         (λ a s q s' q'. WalksTo (values_at E.Node.NodeSet E.Env E.Hash.KeyHash a.environment) a.me worker.0 q
         (Task.Finish waiting) (todos path.old.items) q' result (todos_after result path.new.items) s s') }
 {
-    match store_node(access, alloc, worker, &waiting, node) {
-        Ok(key) => publish(table, path, make_done(&waiting, node, key)),
+    match store_node(access, alloc, worker, waiting, node) {
+        Ok(done) => publish(table, path, done),
         Err(e) => Turn::Goes(fail_with(path, &e, None)),
     }
 }

@@ -11,7 +11,7 @@ ghost use Rattle.pagable_load.specs.{
 };
 ghost use Rattle.pagable_pageout.specs.{
   Joint.ActsBoth,
-  Results.{HasFormOf, IsKeyOverResults},
+  Results.{HasFormOf, IsKeyOverResults, ResultStands},
   Slots.{keys_of, written_of},
   Strides.{StoresAndReleasesNode, loose_handle_of},
   Table.claim_result,
@@ -369,8 +369,30 @@ pub fn write<E: Env<Node: NodeSet<E>>, A: WorkerAccess<E>, T: Claims<E>>(
 
 // ---- at a written node or item
 
-// Makes the blob of what was written, with the keys of its references' results. Fails with
-// OutOfMemory alone.
+// Makes the blob of what was written, with the keys of its references' results. Takes the bytes over
+// if nobody shares them, and else copies them. Fails with OutOfMemory alone.
+fn take_blob<E: Env<Node: NodeSet<E>>>(
+    alloc: Global,
+    written: Arc<SerializedData>,
+    children: &Vec<SlotResult<E>>,
+) -> Result<PagableData, Error>
+    ensures blob { IfOk result (λ blob. blob_of blob ≡ blob_over (written_of (arc_value written)).bytes
+        (keys_of children.now.items)) }
+    ensures only { IfErr result (λ e. e ≡ Error.OutOfMemory) }
+{
+    let arcs = children.iter().map(|found| found.key).collect(alloc)?;
+    let bytes = match Arc::try_unwrap(written) {
+        Ok(data) => {
+            let SerializedData { bytes, arcs: _arcs } = data;
+            bytes
+        }
+        Err(shared) => Vec::from_slice(alloc, shared.bytes.as_slice())?,
+    };
+    Ok(PagableData { bytes, arcs })
+}
+
+// Makes the blob of what was written, with the keys of its references' results, and copies the
+// bytes. Fails with OutOfMemory alone.
 fn blob<E: Env<Node: NodeSet<E>>>(
     alloc: Global,
     waiting: &WaitingValue<E>,
@@ -379,10 +401,8 @@ fn blob<E: Env<Node: NodeSet<E>>>(
         (keys_of waiting.now.children.items)) }
     ensures only { IfErr result (λ e. e ≡ Error.OutOfMemory) }
 {
-    let children = &waiting.children;
-    let arcs = children.iter().map(|found| found.key).collect(alloc)?;
-    let bytes = Vec::from_slice(alloc, waiting.written.bytes.as_slice())?;
-    Ok(PagableData { bytes, arcs })
+    let written = Arc::try_clone(&waiting.written)?;
+    take_blob(alloc, written, &waiting.children)
 }
 
 // Stores the blob of what was written, with the keys of its references' results, and returns its
@@ -421,42 +441,11 @@ fn loose_handle_of(node: ClaimedNode) -> Option<HandleNumber>
     None
 }
 
-// Stores the blob of a written node, with the keys of its references' results, sets its key and
-// releases the worker's handles of it.
-pub(crate) fn store_node<E: Env<Node: NodeSet<E>>, A: WorkerAccess<E>>(
-    access: &mut A,
-    alloc: Global,
-    worker: WorkerNumber,
-    waiting: &WaitingValue<E>,
-    node: ClaimedNode,
-) -> Result<DataKey, Error>
-    ensures key { IfOk result (λ key. key ≡ key_of E.Hash.digest
-        (blob_over (written_of (arc_value waiting.now.written)).bytes (keys_of waiting.now.children.items))) }
-    ensures acts { Acts A.known_state A.acting access.old access.new
-        (λ a s t. StoresAndReleasesNode (values_at E.Node.NodeSet E.Env E.Hash.KeyHash a.environment)
-        a.me worker.0 node s
-        (blob_over (written_of (arc_value waiting.now.written)).bytes (keys_of waiting.now.children.items)) result t) }
-{
-    let blob = blob(alloc, waiting)?;
-    let at = WorkerNode {
-        worker,
-        node: node.reference.node,
-        loose: loose_handle_of(node),
-    };
-    access.store_node(alloc, blob, at)
-}
-
 // Returns a written node's reference with its result, given the key of the node's blob.
-pub(crate) fn make_done<E: Env<Node: NodeSet<E>>>(
-    waiting: &WaitingValue<E>,
-    node: ClaimedNode,
-    key: DataKey,
-) -> DoneReference<E>
-    requires node { waiting.now.node ≡ Some node }
-    requires all { length (keys_of waiting.now.children.items)
-        ≡ length (written_of (arc_value waiting.now.written)).references }
-    requires key { key ≡ key_of E.Hash.digest (blob_over (written_of (arc_value waiting.now.written)).bytes
-        (keys_of waiting.now.children.items)) }
+fn make_done<E: Env<Node: NodeSet<E>>>(node: ClaimedNode, key: DataKey) -> DoneReference<E>
+    requires low { node.height ≤ longest_path }
+    requires stands { ∥ ResultStands E.Hash.digest (values_at E.Node.NodeSet E.Env E.Hash.KeyHash)
+        (identity_of node.reference) key ∥₁ }
     ensures reference { result.reference ≡ node.reference }
     ensures key { result.found.key ≡ key }
     ensures height { result.found.height ≡ node.height }
@@ -469,6 +458,45 @@ pub(crate) fn make_done<E: Env<Node: NodeSet<E>>>(
         of: PhantomData,
     };
     DoneReference { reference, found }
+}
+
+// Stores the blob of a written node, with the keys of its references' results, sets its key and
+// releases the worker's handles of it. Returns the node's reference with its result.
+pub(crate) fn store_node<E: Env<Node: NodeSet<E>>, A: WorkerAccess<E>>(
+    access: &mut A,
+    alloc: Global,
+    worker: WorkerNumber,
+    waiting: WaitingValue<E>,
+    node: ClaimedNode,
+) -> Result<DoneReference<E>, Error>
+    requires node { waiting.node ≡ Some node }
+    requires all { length (keys_of waiting.children.items)
+        ≡ length (written_of (arc_value waiting.written)).references }
+    ensures reference { IfOk result (λ done. done.reference ≡ node.reference) }
+    ensures height { IfOk result (λ done. done.found.height ≡ node.height) }
+    ensures key { IfOk result (λ done. done.found.key ≡ key_of E.Hash.digest
+        (blob_over (written_of (arc_value waiting.written)).bytes (keys_of waiting.children.items))) }
+    ensures acts { Acts A.known_state A.acting access.old access.new
+        (λ a s t. StoresAndReleasesNode (values_at E.Node.NodeSet E.Env E.Hash.KeyHash a.environment)
+        a.me worker.0 node s
+        (blob_over (written_of (arc_value waiting.written)).bytes (keys_of waiting.children.items))
+        (result_map (λ done. done.found.key) result) t) }
+{
+    let WaitingValue {
+        written,
+        children,
+        ..
+    } = waiting;
+    let blob = take_blob(alloc, written, &children)?;
+    let at = WorkerNode {
+        worker,
+        node: node.reference.node,
+        loose: loose_handle_of(node),
+    };
+    match access.store_node(alloc, blob, at) {
+        Ok(key) => Ok(make_done(node, key)),
+        Err(e) => Err(e),
+    }
 }
 
 // Returns what follows when a blob is stored: setting the node's key; or, for an item, the answer.
@@ -487,7 +515,7 @@ pub(crate) fn turn_after_store<E: Env<Node: NodeSet<E>>>(
     let Some(node) = waiting.node else {
         return Turn::Answers(WorkerAnswer::Key(key));
     };
-    Turn::Goes(Task::SetKey(make_done(&waiting, node, key), node.through))
+    Turn::Goes(Task::SetKey(make_done(node, key), node.through))
 }
 
 /// Stores the blob of a node or an item whose references are all done.

@@ -1,5 +1,11 @@
-use Rattle.pagable_pageout.proofs.{Nodes.results-stand, Words.{Task, keys_of, refl, ∥∥₁_map}}
+use Rattle.pagable_pageout.proofs.{Nodes.{node-low, node-stands, results-stand}, Words.{Task, keys_of, refl, ∥∥₁_map}}
 use Rattle.pagable_pageout.proofs.turns.turn_after_store.Goals as goal
+
+pub make_done-requires-clause-low : goal.make_done-requires-clause-low
+make_done-requires-clause-low g c = node-low c.args.waiting c.requires.all c.in-Some.node c.in-Some.is
+
+pub make_done-requires-clause-stands : goal.make_done-requires-clause-stands
+make_done-requires-clause-stands g c = node-stands c.args.waiting c.requires.all c.in-Some.node c.in-Some.is c.args.key c.requires.key
 
 pub returns-clause-follows : goal.returns-clause-follows
 returns-clause-follows g c =
