@@ -28,7 +28,7 @@ use crate::checks::{find_owned, references_fault};
 use crate::handle_table::HandleAt;
 use crate::kinds::{is_loose_mode, is_worker, pins};
 use crate::nodes::{
-    Counts, NodeRow, PackedCounts, counts_with_handle, is_in_memory, key_in, raise_bound_for,
+    Counts, NodeRow, PackedCounts, counts_with_handle, is_in_memory, key_in,
 };
 use crate::tables::Tables;
 use crate::{handle_table, nodes};
@@ -85,7 +85,6 @@ pub fn add_handle(
         → ValueStays (counts_at t.old.nodes n) (counts_at t.new.nodes n) }
     ensures steady { IsSoundInCascade t.new [] owns_nothing }
 {
-    let counts = nodes::counts_of(&t.nodes, node.0).unwrap();
     if t.last_handle == u64::MAX {
         return Err(Error::NumbersSpent);
     }
@@ -99,9 +98,7 @@ pub fn add_handle(
     };
     handle_table::push(&mut t.handles, row)?;
     t.last_handle = number.0;
-    let more = counts_with_handle(counts, pins(mode));
-    nodes::set_counts(&mut t.nodes, node.0, more);
-    raise_bound_for(&mut t.nodes, node.0, me);
+    nodes::count_handle(&mut t.nodes, node.0, pins(mode), me);
     Ok(number)
 }
 

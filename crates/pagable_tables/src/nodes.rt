@@ -8,6 +8,7 @@ ghost use Rattle.pagable_pager_spec.specs.{
   World.Cell,
   declared.handle_row.Owner.Owner,
 };
+ghost use Rattle.pagable_tables.specs.declared.nodes.Counts.{Counts};
 ghost use Rattle.pagable_tables.specs.{
   CascadeInvariant.is_worker,
   Nodes.{cell_in, counts_at, key_in, most_worker_handles_at, pins_in, refs_at},
@@ -253,6 +254,31 @@ pub fn raise_bound_for(nodes: &mut Nodes, node: u64, owner: Owner)
     if is_worker(owner) {
         let bound = worker_bound_of(nodes, node).saturating_add(1);
         set_worker_bound(nodes, node, bound);
+    }
+}
+
+/// Counts one more handle of a node, owned by `owner`, in place: the counts and the bound as
+/// `counts_with_handle` and `raise_bound_for` give them.
+#[tactic(auto, unfolding(crate::specs::NumberTable::place_at, crate::specs::NumberTable::row_by))]
+pub fn count_handle(nodes: &mut Nodes, node: u64, pinning: bool, owner: Owner)
+    requires live { IsSome (counts_at nodes.old node) }
+    requires pins { (c : Counts) → counts_at nodes.old node ≡ Some c → c.pins < 2 ^ 63 }
+    requires holds { (c : Counts) → counts_at nodes.old node ≡ Some c → c.holds < 2 ^ 63 }
+    ensures here { (c : Counts) → counts_at nodes.old node ≡ Some c
+        → counts_at nodes.new node ≡ Some (record c { pins = c.pins + one pinning; holds = c.holds + 1 }) }
+    ensures bound { (k : ℕ) → k < 2 ^ 64 → k ≤ most_worker_handles_at nodes.old node + one (is_worker owner)
+        → k ≤ most_worker_handles_at nodes.new node }
+    ensures bounds { (q : ℕ) → most_worker_handles_at nodes.old q ≤ most_worker_handles_at nodes.new q }
+    ensures others { (q : ℕ) → q ≢ node → counts_at nodes.new q ≡ counts_at nodes.old q }
+    ensures refs { (q : ℕ) → refs_at nodes.new q ≡ refs_at nodes.old q }
+{
+    let rows = &mut nodes.chunks[chunk_of(node)];
+    if let Some(row) = &mut rows[place_of(node)] {
+        row.counts.pins += pinning as u64;
+        row.counts.holds += 1;
+        if is_worker(owner) {
+            row.worker_bound = row.worker_bound.saturating_add(1);
+        }
     }
 }
 
