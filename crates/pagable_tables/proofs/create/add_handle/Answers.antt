@@ -1,15 +1,10 @@
 use Rattle.pagable_tables.proofs.{
-  CascadeStep.come-fits,
+  CascadeStep.{come-fits, counts-there},
   HandleTable.length-live-le,
   SameViews.alike,
-  Words.{Counts, HandleRow, IsSome, None, Option, Some, ap, arith, basics, cases_Bool, cases_eq, counts_at, is_pinning, one, refl, rows_of, rules, ◌+◌, ◌∙◌, ◌≡◌},
+  Words.{HandleRow, Some, ap, arith, basics, cases_Bool, cases_eq, counts_at, is_pinning, one, refl, rows_of, rules, ◌+◌, ◌∙◌, ◌≡◌},
   WorkCounts.{work-few, work-push},
 }
-
--- the counts of a node that is there
-counts-there : (o : Option Counts) → IsSome o → (y : Counts) × (o ≡ Some y)
-counts-there (Some y) h = (y, refl)
-counts-there None h = cc
 
 pub returns : Rattle.pagable_tables.proofs.create.add_handle.Goals.returns
 returns c =
