@@ -345,15 +345,16 @@ pub fn raise_bound_for(nodes: &mut Nodes, node: u64, owner: Owner)
     }
 }
 
-/// Counts one more handle of a node, owned by `owner`, in place: the counts and the bound as
-/// `counts_with_handle` and `raise_bound_for` give them.
+/// Counts one more handle of a node, owned by `owner`, and so many more pins, in place. The bound of
+/// how many of its handles are owned by workers stops at 2^64 - 1.
 #[tactic(auto, unfolding(crate::specs::NumberTable::place_at, crate::specs::NumberTable::row_by))]
-pub fn count_handle(nodes: &mut Nodes, node: u64, pinning: bool, owner: Owner)
+pub fn count_handle(nodes: &mut Nodes, node: u64, pins: u64, owner: Owner)
     requires live { IsSome (counts_at nodes.old node) }
+    requires few { pins ≤ 2 }
     requires pins { (c : Counts) → counts_at nodes.old node ≡ Some c → c.pins < 2 ^ 63 }
     requires holds { (c : Counts) → counts_at nodes.old node ≡ Some c → c.holds < 2 ^ 63 }
     ensures here { (c : Counts) → counts_at nodes.old node ≡ Some c
-        → counts_at nodes.new node ≡ Some (record c { pins = c.pins + one pinning; holds = c.holds + 1 }) }
+        → counts_at nodes.new node ≡ Some (record c { pins = c.pins + pins; holds = c.holds + 1 }) }
     ensures bound { (k : ℕ) → k < 2 ^ 64 → k ≤ most_worker_handles_at nodes.old node + one (is_worker owner)
         → k ≤ most_worker_handles_at nodes.new node }
     ensures bounds { (q : ℕ) → most_worker_handles_at nodes.old q ≤ most_worker_handles_at nodes.new q }
@@ -362,7 +363,7 @@ pub fn count_handle(nodes: &mut Nodes, node: u64, pinning: bool, owner: Owner)
 {
     let rows = &mut nodes.chunks[chunk_of(node)];
     if let Some(row) = &mut rows[place_of(node)] {
-        row.counts.pins += pinning as u64;
+        row.counts.pins += pins;
         row.counts.holds += 1;
         if is_worker(owner) {
             row.worker_bound = row.worker_bound.saturating_add(1);

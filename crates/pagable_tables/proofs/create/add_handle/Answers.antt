@@ -18,7 +18,7 @@ returns c =
     let rows = rows_of t in
     let fits = c.requires.steady.fits in
     let here : counts_at c.count_handle.new.nodes m ≡ Some (record y { pins = y.pins + one (is_pinning x.mode); holds = y.holds + 1 }) =
-    k.here y is ∙ ap Some (ap (λ p. record y { pins = y.pins + one p; holds = y.holds + 1 }) c.pins.ensures) in
+    grind (basics, k.here y is, c.pins.ensures) in
     record {
       made = λ w. record {
         made = (
