@@ -179,7 +179,8 @@ impl NodeRow {
         if !stays && is_worker(row.owner) {
             self.worker_bound = self.worker_bound.saturating_sub(1);
         }
-        self.counts.count_release(pins(row.mode), stays, listed, top)
+        self.counts
+            .count_release(pins(row.mode), stays, listed, top)
     }
 
     /// Counts the handle of this row less as `count_release` does, if no entry has to be listed.

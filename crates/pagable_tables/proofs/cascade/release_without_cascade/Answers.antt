@@ -1,10 +1,4 @@
-use Rattle.pagable_tables.proofs.{
-  CascadeStep.{counts-there, given-fits, held-here, owned-by-none, pin-here, some-held},
-  Counting.with-entry,
-  Words.{AddsWantedEntry, Bool, CantList, Counts, Error, Handles, HandleRow, IsNext, IsSoundInCascade, List, NodeNumber, NodeRow, NumberTable, Option, RefCounts, ReleasesWithoutCascade},
-  Words.{AreSound, RemovesOrUnpins, Some, ap, append-nil, arith, basics, cases_eq, counts_after_release, counts_at, entry, false, if◌then◌else◌, is_last_pin_without_key, is_pin, is_pinning},
-  Words.{is_at, is_value_owner, live, not, one, owns, pins_in, refl, refs_at, rows_of, sum_by, sym, true, unpinned, ℕ, ◌&&◌, ◌+◌, ◌∙◌, ◌∷◌, ◌≡◌, ◌≢◌, ◌≤◌},
-}
+use Rattle.pagable_tables.proofs.{CascadeStep.{counts-there, given-fits, held-here, owned-by-none, pin-here, some-held}, Counting.with-entry, Words.{AddsWantedEntry, Bool, CantList, Counts, Error, Handles, HandleRow, IsNext, IsSoundInCascade, List, NodeNumber, NodeRow, NumberTable, RefCounts, ReleasesWithoutCascade}, Words.{AreSound, RemovesOrUnpins, Some, ap, append-nil, arith, basics, cases_eq, counts_after_release, counts_at, entry, false, if◌then◌else◌, is_last_pin_without_key, is_pin, is_pinning}, Words.{is_at, is_value_owner, live, one, owns, pins_in, refl, refs_at, rows_of, sum_by, sym, true, unpinned, ℕ, ◌&&◌, ◌+◌, ◌∙◌, ◌∷◌, ◌≡◌, ◌≢◌, ◌≤◌}}
 use Rattle.pagable_tables.specs.{
   CascadeInvariant.{is_work, is_worker},
   CascadeSteps.falls_by_release,
@@ -129,9 +123,9 @@ returns-in-Some c stack w =
     let some = c.in-Some.is in
     let wanted = rw some at (e.wanted _ at-node) in
     releases old stack x c.args.stays c.args.lists w plain gone leaves false (record old { handles = gone })
-        (unwanted (record old { handles = gone }) x.node _ leaves.becomes.sound (leaves.becomes.next (old.last_handle + 1) w.next) wanted)
-        c.count_unlisted_release.new.nodes c.in-Some.falls (rw some at (e.here _ at-node)) (c.in-Some.ensures.falls _ at-node) e.others e.refs c.in-Some.ensures.bound
-        e.bounds _ (grind (basics, c.first_dying_after-t.ensures))
+    (unwanted (record old { handles = gone }) x.node _ leaves.becomes.sound (leaves.becomes.next (old.last_handle + 1) w.next) wanted)
+    c.count_unlisted_release.new.nodes c.in-Some.falls (rw some at (e.here _ at-node)) (c.in-Some.ensures.falls _ at-node) e.others e.refs c.in-Some.ensures.bound
+    e.bounds _ (grind (basics, c.first_dying_after-t.ensures))
 
 pub returns : goal.returns
 returns c stack w =
@@ -149,9 +143,9 @@ returns c stack w =
     let k = c.count_release-falls.ensures in
     let on = ap (λ s. counts_at s x.node.0) nodes ∙ kept in
     releases old stack x c.args.stays c.args.lists w plain gone leaves c.try_push_pending-listed.result
-        (record c.try_push_pending-listed.new.t { nodes = old.nodes })
-        (rw (e.wanted _ at-node) (rw none (beside-nodes (record old { handles = gone }) _ _ x.node true _ comes)))
-        c.count_release-falls.new.nodes c.count_release-falls.result (rw comes.comes.top at (k.here _ on)) (k.falls _ on)
-        (λ q ne. k.others q ne ∙ ap (λ s. counts_at s q) nodes ∙ e.others q ne) (λ q. k.refs q ∙ ap (λ s. refs_at s q) nodes ∙ e.refs q)
-        (grind (basics, k.bound, nodes, c.in_default.ensures.same_bound)) (λ q ne. k.bounds q ne ∙ ap (λ s. most_worker_handles_at s q) nodes ∙ e.bounds q ne)
-        _ (grind (basics, c.first_dying_after-t-2.ensures, comes.comes.top))
+    (record c.try_push_pending-listed.new.t { nodes = old.nodes })
+    (rw (e.wanted _ at-node) (rw none (beside-nodes (record old { handles = gone }) _ _ x.node true _ comes)))
+    c.count_release-falls.new.nodes c.count_release-falls.result (rw comes.comes.top at (k.here _ on)) (k.falls _ on)
+    (λ q ne. k.others q ne ∙ ap (λ s. counts_at s q) nodes ∙ e.others q ne) (λ q. k.refs q ∙ ap (λ s. refs_at s q) nodes ∙ e.refs q)
+    (grind (basics, k.bound, nodes, c.in_default.ensures.same_bound)) (λ q ne. k.bounds q ne ∙ ap (λ s. most_worker_handles_at s q) nodes ∙ e.bounds q ne)
+    _ (grind (basics, c.first_dying_after-t-2.ensures, comes.comes.top))

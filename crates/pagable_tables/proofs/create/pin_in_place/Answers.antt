@@ -1,13 +1,4 @@
-use Rattle.pagable_tables.proofs.{
-  CascadeStep.{come-fits, counts-there, held-here, set_loose_pinned-fits, some-held, turned},
-  HandleTable.{changed-known, length-live-le, row-le-live},
-  OwnedByLoad.does-so,
-  SameViews.alike,
-  Views.{loose-unshared, not-a-value, pin-comes, settled},
-  Words.{Counts, HandleRow, Mode, Some, ap, arith, basics, cases_eq, core_alone, counts_at, is_at, is_pinning, live, not, one, refl, refs_at, updated},
-  Words.{ℕ, [], ◌++◌, ◌+◌, ◌∙◌, ◌∷◌, ◌≡◌},
-  WorkCounts.{work-few, work-push},
-}
+use Rattle.pagable_tables.proofs.{CascadeStep.{come-fits, counts-there, held-here, set_loose_pinned-fits, some-held, turned}, HandleTable.{changed-known, length-live-le, row-le-live}, OwnedByLoad.does-so, SameViews.alike, Views.{not-a-value, pin-comes, settled}, Words.{Counts, HandleRow, Mode, Some, ap, arith, basics, cases_eq, core_alone, counts_at, is_at, is_pinning, live, not, one, refl, refs_at, updated}, Words.{[], ◌++◌, ◌+◌, ◌∙◌, ◌∷◌}, WorkCounts.{work-few, work-push}}
 use Rattle.pagable_tables.specs.{CascadeInvariant.{BoundsWorkerHandles, is_work}}
 use Rattle.pagable_tables.proofs.create.pin_in_place.Goals as goal
 
