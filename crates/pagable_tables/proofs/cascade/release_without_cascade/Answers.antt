@@ -1,4 +1,11 @@
-use Rattle.pagable_tables.proofs.{CascadeStep.{counts-there, given-fits, held-here, owned-by-none, pin-here, some-held}, Counting.with-entry, Words.{AddsWantedEntry, Bool, CantList, Counts, Error, Handles, HandleRow, IsNext, IsSoundInCascade, List, NodeNumber, NodeRow, NumberTable, RefCounts, ReleasesWithoutCascade}, Words.{AreSound, RemovesOrUnpins, Some, ap, append-nil, arith, basics, cases_eq, counts_after_release, counts_at, entry, false, if◌then◌else◌, is_last_pin_without_key, is_pin, is_pinning}, Words.{is_at, is_value_owner, live, one, owns, pins_in, refl, refs_at, rows_of, sum_by, sym, true, unpinned, ℕ, ◌&&◌, ◌+◌, ◌∙◌, ◌∷◌, ◌≡◌, ◌≢◌, ◌≤◌}}
+use Rattle.pagable_tables.proofs.{
+  CascadeStep.{counts-there, given-fits, held-here, owned-by-none, pin-here, some-held},
+  Counting.with-entry,
+  Words.{AddsWantedEntry, AreSound, Bool, CantList, Counts, Error, HandleRow, Handles, IsNext, IsSoundInCascade, List, NodeNumber, NodeRow, NumberTable},
+  Words.{RefCounts, ReleasesWithoutCascade, RemovesOrUnpins, Some, ap, append-nil, arith, basics, cases_eq, counts_after_release, counts_at, entry, false},
+  Words.{if◌then◌else◌, is_at, is_last_pin_without_key, is_pin, is_pinning, is_value_owner, live, one, owns, pins_in, refl, refs_at, rows_of, sum_by, sym},
+  Words.{true, unpinned, ℕ, ◌&&◌, ◌+◌, ◌∙◌, ◌∷◌, ◌≡◌, ◌≢◌, ◌≤◌},
+}
 use Rattle.pagable_tables.specs.{
   CascadeInvariant.{is_work, is_worker},
   CascadeSteps.falls_by_release,
@@ -69,8 +76,9 @@ module _ (old : RefCounts) (stack : List ℕ) (x : HandleRow) (stays lists : Boo
   some-holds : 1 ≤ counts.holds
   some-holds = grind (basics, w.fits.holding x.node.0, leaves.there (λ h. one (is_at x.node.0 h)), held-here x)
 
-  module _ (listed : Bool) (mid : RefCounts) (comes : AddsWantedEntry (record old { handles = left }) x.node (lists && is_last_pin_without_key counts x.mode) listed mid)
-      (nodes : NumberTable NodeRow) (falls : Bool) (here : counts_at nodes x.node.0 ≡ Some (counts_after_release counts (is_pinning x.mode) stays listed old.top))
+  module _ (listed : Bool) (mid : RefCounts)
+      (comes : AddsWantedEntry (record old { handles = left }) x.node (lists && is_last_pin_without_key counts x.mode) listed mid) (nodes : NumberTable NodeRow)
+      (falls : Bool) (here : counts_at nodes x.node.0 ≡ Some (counts_after_release counts (is_pinning x.mode) stays listed old.top))
       (says : falls ≡ falls_by_release counts (is_pinning x.mode) stays listed) (others : (q : ℕ) → q ≢ x.node.0 → counts_at nodes q ≡ counts_at old.nodes q)
       (refs : (q : ℕ) → refs_at nodes q ≡ refs_at old.nodes q)
       (bound : most_worker_handles_at old.nodes x.node.0 ≤ most_worker_handles_at nodes x.node.0 + (if stays then 0 else one (is_worker x.owner)))
@@ -124,8 +132,8 @@ returns-in-Some c stack w =
     let wanted = rw some at (e.wanted _ at-node) in
     releases old stack x c.args.stays c.args.lists w plain gone leaves false (record old { handles = gone })
     (unwanted (record old { handles = gone }) x.node _ leaves.becomes.sound (leaves.becomes.next (old.last_handle + 1) w.next) wanted)
-    c.count_unlisted_release.new.nodes c.in-Some.falls (rw some at (e.here _ at-node)) (c.in-Some.ensures.falls _ at-node) e.others e.refs c.in-Some.ensures.bound
-    e.bounds _ (grind (basics, c.first_dying_after-t.ensures))
+    c.count_unlisted_release.new.nodes c.in-Some.falls (rw some at (e.here _ at-node)) (c.in-Some.ensures.falls _ at-node) e.others e.refs
+    c.in-Some.ensures.bound e.bounds _ (grind (basics, c.first_dying_after-t.ensures))
 
 pub returns : goal.returns
 returns c stack w =

@@ -1,4 +1,10 @@
-use Rattle.pagable_tables.proofs.{CascadeStep.{come-fits, counts-there}, HandleTable.length-live-le, SameViews.alike, Words.{HandleRow, Some, arith, basics, cases_Bool, cases_eq, counts_at, is_pinning, one, refl, rows_of, rules, ◌+◌, ◌≡◌}, WorkCounts.{work-few, work-push}}
+use Rattle.pagable_tables.proofs.{
+  CascadeStep.{come-fits, counts-there},
+  HandleTable.length-live-le,
+  SameViews.alike,
+  Words.{HandleRow, Some, arith, basics, cases_Bool, cases_eq, counts_at, is_pinning, one, refl, rows_of, rules, ◌+◌, ◌≡◌},
+  WorkCounts.{work-few, work-push},
+}
 
 pub returns : Rattle.pagable_tables.proofs.create.add_handle.Goals.returns
 returns c =

@@ -1,5 +1,14 @@
-use Rattle.pagable_tables.proofs.{CascadeStep.{come-fits, counts-there, held-here, set_loose_pinned-fits, some-held, turned}, HandleTable.{changed-known, length-live-le, row-le-live}, OwnedByLoad.does-so, SameViews.alike, Views.{not-a-value, pin-comes, settled}, Words.{Counts, HandleRow, Mode, Some, ap, arith, basics, cases_eq, core_alone, counts_at, is_at, is_pinning, live, not, one, refl, refs_at, updated}, Words.{[], ◌++◌, ◌+◌, ◌∙◌, ◌∷◌}, WorkCounts.{work-few, work-push}}
-use Rattle.pagable_tables.specs.{CascadeInvariant.{BoundsWorkerHandles, is_work}}
+use Rattle.pagable_tables.proofs.{
+  CascadeStep.{come-fits, counts-there, held-here, set_loose_pinned-fits, some-held, turned},
+  HandleTable.{changed-known, length-live-le, row-le-live},
+  OwnedByLoad.does-so,
+  SameViews.alike,
+  Views.{not-a-value, pin-comes, settled},
+  Words.{Counts, HandleRow, Mode, Some, ap, arith, basics, cases_eq, core_alone, counts_at, is_at, is_pinning, live, not, one, refl, refs_at, updated, []},
+  Words.{◌++◌, ◌+◌, ◌∙◌, ◌∷◌},
+  WorkCounts.{work-few, work-push},
+}
+use Rattle.pagable_tables.specs.CascadeInvariant.{BoundsWorkerHandles, is_work}
 use Rattle.pagable_tables.proofs.create.pin_in_place.Goals as goal
 
 pub returns : goal.returns
@@ -19,7 +28,8 @@ returns c =
     let mid = updated n (Some z) (counts_at t.nodes) in
     let rows = live gone.places.items in
     let pin : HandleRow = record { number = record { 0 = t.last_handle + 1 }; node = x.node; mode = Mode.Pinned; owner = c.args.me } in
-    let loose = set_loose_pinned-fits {at' = mid} {refs' = refs_at t.nodes} x y w.steady.fits is c.replace_row.ensures.sums (grind basics) (λ q ne. grind basics) (λ q. refl) in
+    let loose = set_loose_pinned-fits {at' = mid} {refs' = refs_at t.nodes} x y w.steady.fits is c.replace_row.ensures.sums (grind basics)
+    (λ q ne. grind basics) (λ q. refl) in
     let worked : BoundsWorkerHandles rows t.nodes = λ q. grind (basics, c.replace_row.ensures.sums (λ h. one (is_work q h)), w.steady.worked q) in
     does-so
     (λ storage. record {
@@ -34,7 +44,8 @@ returns c =
     (record {
       sound = c.push.ensures.sound;
       next = c.in-Ok.ensures.next;
-      fits = rw c.in-Ok.ensures.rows (come-fits pin z loose (grind basics) (grind (basics, k.here)) (λ q ne. grind (basics, k.others q ne)) k.refs (not-a-value (core_alone c.args.t.now) _ c.requires.holder));
+      fits = rw c.in-Ok.ensures.rows (come-fits pin z loose (grind basics) (grind (basics, k.here)) (λ q ne. grind (basics, k.others q ne)) k.refs
+          (not-a-value (core_alone c.args.t.now) _ c.requires.holder));
       worked = rw c.in-Ok.ensures.rows (work-push rows pin t.nodes new worked k.bounds
           (k.bound _ (grind (basics, work-few n rows, length-live-le gone.places.items)) (omega (arith, worked n))));
     })
