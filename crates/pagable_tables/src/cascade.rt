@@ -22,8 +22,8 @@ ghost use Rattle.pagable_tables.specs.{
 };
 ghost use Rattle.pagable_value_spec.specs.declared.numbers.NodeNumber.{NodeNumber};
 ghost use Rattle.std.specs.{
-  Prelude.{Bool, IfErr, List, None, Ok, Option, Some, false, if◌then◌else◌, length, slice_get, true, ℕ},
-  Prelude.{[], ◌*◌, ◌+◌, ◌<◌, ◌==◌, ◌||◌, ◌≡◌, ◌≢◌, ◌≤◌, ◌⊎◌},
+  Prelude.{Bool, IfErr, List, None, Ok, Option, Some, false, if◌then◌else◌, length, not, slice_get, true, ℕ},
+  Prelude.{[], ◌&&◌, ◌*◌, ◌+◌, ◌<◌, ◌==◌, ◌||◌, ◌≡◌, ◌≢◌, ◌≤◌, ◌⊎◌},
   Result.is_ok,
 };
 
@@ -107,12 +107,12 @@ fn remove_or_unpin(handles: &mut Handles, at: HandleAt, stays: bool)
     }
 }
 
-/// Returns the first dying node once `node` was counted: `node` if it starts dying (`falls`), else
-/// `top`, the first one until then.
-pub fn first_dying_after(falls: bool, node: u64, top: u64) -> u64
-    ensures { result ≡ (if falls then node else top) }
+/// Returns the first dying node after the counts of `node` have changed: `node` if it is dying now
+/// (`falls`) and wasn't `before`, else `top`, the first one until then.
+pub fn first_dying_after(before: bool, falls: bool, node: u64, top: u64) -> u64
+    ensures { result ≡ (if falls && not before then node else top) }
 {
-    if falls { node } else { top }
+    if falls && !before { node } else { top }
 }
 
 /// Removes the handle, or only its pin if it `stays`, without a step of the cascade. Where `lists`
@@ -130,12 +130,12 @@ pub fn release_without_cascade(t: &mut RefCounts, at: HandleAt, stays: bool, lis
     let _taken = t.handles.places.len();
     remove_or_unpin(&mut t.handles, at, stays);
     if let Some(falls) = nodes::count_unlisted_release(&mut t.nodes, at.row, stays, lists, t.top) {
-        t.top = first_dying_after(falls, node.0, t.top);
+        t.top = first_dying_after(false, falls, node.0, t.top);
         return;
     }
     let listed = try_push_pending(t, node);
     let falls = nodes::count_release(&mut t.nodes, at.row, stays, listed, t.top);
-    t.top = first_dying_after(falls, node.0, t.top);
+    t.top = first_dying_after(false, falls, node.0, t.top);
 }
 
 /// Ends the dying of a node whose references are all released: removes it if it has no handle, else

@@ -370,9 +370,9 @@ pub fn set_data_key<N: Drop>(
     counts.key = key.get();
     counts.is_dying = is_dying;
     // if the node is dying now, the cascade finishes it before the nodes that were dying already
-    counts.next = first_dying_after(is_dying, t.ref_counts.top, counts.next);
+    counts.next = first_dying_after(false, is_dying, t.ref_counts.top, counts.next);
     nodes::set_counts(&mut t.ref_counts.nodes, node, counts);
-    t.ref_counts.top = first_dying_after(is_dying, node, t.ref_counts.top);
+    t.ref_counts.top = first_dying_after(false, is_dying, node, t.ref_counts.top);
     t.ref_counts.listing_error = None;
     finish_cascade(&mut t.ref_counts, values, lists)
 }
