@@ -169,6 +169,11 @@ module _ {at at' : ℕ → Option Counts} {refs refs' : ℕ → List ArcRef} {ro
 pub some-held : (o : Option Counts) → 0 < holds_in o → IsSome o
 some-held x0 h = grind basics
 
+-- the counts of a node that is there
+pub counts-there : (o : Option Counts) → IsSome o → (y : Counts) × (o ≡ Some y)
+counts-there (Some y) h = (y, refl)
+counts-there None h = cc
+
 pub held-few : (n : ℕ) (rows : List HandleRow) → held n rows ≤ length rows
 held-few n rows = omega (arith, ones rows, sum_by-le-sum_by (λ h. one (is_at n h)) (λ h. 1) rows (λ h. one-le (is_at n h)))
 

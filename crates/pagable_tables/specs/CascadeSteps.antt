@@ -33,11 +33,16 @@ is_last_pin_without_key c Mode.Shared = false
 abbrev pub is_fallen_by : Counts → Bool → ℕ → ℕ → Bool
 is_fallen_by c pinning pins holds = not c.is_dying && (holds == 0 || (pinning && pins == 0 && nat_lt 0 c.key))
 
+-- whether the node starts dying by it
+abbrev pub falls_by_release : Counts → Bool → Bool → Bool → Bool
+falls_by_release c pinning stays listed =
+    is_fallen_by c pinning (c.pins - one pinning) ((if stays then c.holds else c.holds - 1) + one listed)
+
 abbrev pub counts_after_release : Counts → Bool → Bool → Bool → ℕ → Counts
 counts_after_release c pinning stays listed top =
     let pins = c.pins - one pinning in
     let holds = (if stays then c.holds else c.holds - 1) + one listed in
-    let falls = is_fallen_by c pinning pins holds in
+    let falls = falls_by_release c pinning stays listed in
     record c { pins = pins; holds = holds; is_dying = c.is_dying || falls; next = if falls then top else c.next }
 
 -- why no entry can be listed: no handle number is left, or no place

@@ -4,17 +4,16 @@
 //! its last pin.
 
 ghost use Rattle.pagable_pager_spec.specs.{
-  Basics.one,
   Cascade.Falls,
   Kinds.is_owner,
   World.Core,
-  declared.{handle_row.{HandleRow.HandleRow, Owner.Owner}, mode.Mode.Mode},
+  declared.handle_row.{HandleRow.HandleRow, Owner.Owner},
 };
 ghost use Rattle.pagable_tables.specs.{
-  CascadeInvariant.{IsSoundInCascade, is_value_owner, is_worker, owns, owns_nothing},
+  CascadeInvariant.{IsSoundInCascade, is_value_owner, owns, owns_nothing},
   CascadeProgress.{IsApart, ReleasedSoFar, result_of_listing, with_tables},
   CascadeSteps.{AddsEntryIf, AddsWantedEntry, CantList, ReleasesWithoutCascade, RemovesOrUnpins, Steps},
-  CascadeSteps.{counts_after_release, finished_counts, is_last_pin_without_key, is_node},
+  CascadeSteps.{finished_counts, is_node},
   HandleTable.{AreSound, IsNext, alive, live},
   Nodes.{counts_at, most_worker_handles_at, refs_at},
   NumberTable.row_by,
@@ -23,13 +22,12 @@ ghost use Rattle.pagable_tables.specs.{
 };
 ghost use Rattle.pagable_value_spec.specs.declared.numbers.NodeNumber.{NodeNumber};
 ghost use Rattle.std.specs.{
-  Prelude.{Bool, IfErr, IsSome, List, None, Ok, Option, Some, false, if◌then◌else◌, length, not, slice_get, true, ℕ},
-  Prelude.{[], ◌&&◌, ◌*◌, ◌+◌, ◌<◌, ◌==◌, ◌^◌, ◌||◌, ◌≡◌, ◌≢◌, ◌≤◌, ◌⊎◌},
+  Prelude.{Bool, IfErr, List, None, Ok, Option, Some, false, if◌then◌else◌, length, not, slice_get, true, ℕ},
+  Prelude.{[], ◌&&◌, ◌*◌, ◌+◌, ◌<◌, ◌==◌, ◌||◌, ◌≡◌, ◌≢◌, ◌≤◌, ◌⊎◌},
   Result.is_ok,
 };
 
 use crate::handle_table::{HandleAt, Handles};
-use crate::kinds::{is_worker, pins};
 use crate::nodes::{Counts, NodeValues, Nodes};
 use crate::{handle_table, nodes};
 use pagable_pager_spec::Mode;
@@ -79,29 +77,18 @@ fn push_pending(t: &mut RefCounts, node: NodeNumber) -> Result<(), Error>
     Ok(())
 }
 
-/// Calls `push_pending` if `wanted`, and says whether an entry was added. The first error is kept
-/// in `listing_error`.
-fn push_pending_if(t: &mut RefCounts, node: NodeNumber, wanted: bool) -> bool
+/// Calls `push_pending`, and says whether an entry was added. The first error is kept in
+/// `listing_error`.
+fn try_push_pending(t: &mut RefCounts, node: NodeNumber) -> bool
     requires sound { AreSound t.old.handles }
     requires next { IsNext (t.old.last_handle + 1) t.old.handles.places.items }
-    ensures { AddsWantedEntry t.old node wanted result t.new }
+    ensures { AddsWantedEntry t.old node true result t.new }
 {
-    if !wanted {
-        return false;
-    }
     let Err(e) = push_pending(t, node) else {
         return true;
     };
     t.listing_error = t.listing_error.take().or(Some(e));
     false
-}
-
-/// Says whether a cell with these counts must be listed when a handle of this mode loses its pin:
-/// `lists` is set, the cell has no key and no other pin, and the mode is LoosePinned or Pinned.
-fn wants_entry(counts: Counts, mode: Mode, lists: bool) -> bool
-    ensures { result ≡ (lists && is_last_pin_without_key counts mode) }
-{
-    lists && counts.pins == 1 && counts.key == 0 && matches!(mode, Mode::LoosePinned | Mode::Pinned)
 }
 
 /// Removes the handle, or only its pin if it `stays`.
@@ -117,42 +104,6 @@ fn remove_or_unpin(handles: &mut Handles, at: HandleAt, stays: bool)
         handle_table::replace_row(handles, at, row);
     } else {
         handle_table::mark_dead(handles, at);
-    }
-}
-
-/// Returns a node's counts after one of its handles was removed, or unpinned if it `stays`, and an
-/// entry was added if `listed`. If the node starts dying by this, its `next` is `top`.
-fn counts_after(counts: Counts, pinning: bool, stays: bool, listed: bool, top: u64) -> Counts
-    requires pins { one pinning ≤ counts.pins }
-    requires holds { 1 ≤ counts.holds }
-    requires small { counts.holds < 2 ^ 63 }
-    ensures { result ≡ counts_after_release counts pinning stays listed top }
-{
-    let mut left = counts;
-    left.pins = counts.pins - pinning as u64;
-    left.holds = counts.holds - !stays as u64 + listed as u64;
-    if !left.is_dying && (left.holds == 0 || (pinning && left.pins == 0 && left.key != 0)) {
-        left.is_dying = true;
-        left.next = top;
-    }
-    left
-}
-
-/// Subtracts one from the upper bound of how many of the node's handles are owned by workers, if a
-/// worker owned this handle, unless the handle `stays`.
-fn lower_bound_for(nodes: &mut Nodes, row: HandleRow, stays: bool)
-    requires { IsSome (counts_at nodes.old row.node.0) }
-    ensures here { most_worker_handles_at nodes.old row.node.0 ≤ most_worker_handles_at nodes.new row.node.0 +
-        (if stays then 0 else one (is_worker row.owner)) }
-    ensures others { (q : ℕ) → q ≢ row.node.0 → most_worker_handles_at nodes.new q
-        ≡ most_worker_handles_at nodes.old q }
-    ensures counts { (q : ℕ) → counts_at nodes.new q ≡ counts_at nodes.old q }
-    ensures refs { (q : ℕ) → refs_at nodes.new q ≡ refs_at nodes.old q }
-{
-    if !stays && is_worker(row.owner) {
-        let node = row.node.0;
-        let bound = nodes::worker_bound_of(nodes, node).saturating_sub(1);
-        nodes::set_worker_bound(nodes, node, bound);
     }
 }
 
@@ -175,16 +126,16 @@ pub fn release_without_cascade(t: &mut RefCounts, at: HandleAt, stays: bool, lis
     ensures { (stack : List ℕ) → IsSoundInCascade t.old stack (owns at.row)
         → ReleasesWithoutCascade t.old stack at.row stays lists t.new }
 {
-    let node = at.row.node.0;
-    let counts = nodes::counts_of(&t.nodes, node).unwrap();
+    let node = at.row.node;
     let _taken = t.handles.places.len();
     remove_or_unpin(&mut t.handles, at, stays);
-    let wanted = wants_entry(counts, at.row.mode, lists);
-    let listed = push_pending_if(t, at.row.node, wanted);
-    let left = counts_after(counts, pins(at.row.mode), stays, listed, t.top);
-    nodes::set_counts(&mut t.nodes, node, left);
-    lower_bound_for(&mut t.nodes, at.row, stays);
-    t.top = first_dying_after(counts.is_dying, left.is_dying, node, t.top);
+    if let Some(falls) = nodes::count_unlisted_release(&mut t.nodes, at.row, stays, lists, t.top) {
+        t.top = first_dying_after(false, falls, node.0, t.top);
+        return;
+    }
+    let listed = try_push_pending(t, node);
+    let falls = nodes::count_release(&mut t.nodes, at.row, stays, listed, t.top);
+    t.top = first_dying_after(false, falls, node.0, t.top);
 }
 
 /// Ends the dying of a node whose references are all released: removes it if it has no handle, else

@@ -5,7 +5,7 @@ ghost use Rattle.pagable_pager_spec.specs.{
   Calls.{CloneCall, InsertPagedOutCall, LoosenCall, PinCall, insert_fault, with_mode},
   Kinds.{is_loose, is_owned_by, is_pinning, is_shared},
   Refusals.{Owns, Refused, earlier, references_fault},
-  World.{Alike, Core},
+  World.{Alike, Core, greatest},
   declared.{handle_row.{HandleRow.HandleRow, Owner.Owner}, mode.Mode.Mode},
 };
 ghost use Rattle.pagable_tables.specs.{
@@ -20,16 +20,15 @@ ghost use Rattle.pagable_tables.specs.{
 };
 ghost use Rattle.pagable_value_spec.specs.declared.numbers.NodeNumber.{NodeNumber};
 ghost use Rattle.std.specs.{
-  Prelude.{IfErr, IsSome, List, None, Ok, OnOk, Some, false, slice_get, true, ℕ, [], ◌+◌, ◌<◌, ◌==◌, ◌||◌, ◌≡◌, ◌⊎◌},
+  Prelude.{IfErr, IsSome, List, None, Ok, OnOk, Some, false, slice_get, true, vec_capacity, vec_len, ℕ, []},
+  Prelude.{◌+◌, ◌<◌, ◌==◌, ◌||◌, ◌≡◌, ◌⊎◌},
 };
 
 use crate::cascade::RefCounts;
 use crate::checks::{find_owned, references_fault};
 use crate::handle_table::HandleAt;
 use crate::kinds::{is_loose_mode, is_worker, pins};
-use crate::nodes::{
-    Counts, NodeRow, PackedCounts, counts_with_handle, is_in_memory, key_in, raise_bound_for,
-};
+use crate::nodes::{Counts, NodeRow, PackedCounts, counts_with_handle, is_in_memory, key_in};
 use crate::tables::Tables;
 use crate::{handle_table, nodes};
 use pagable_pager_spec::handle_row::{HandleRow, Owner};
@@ -85,7 +84,6 @@ pub fn add_handle(
         → ValueStays (counts_at t.old.nodes n) (counts_at t.new.nodes n) }
     ensures steady { IsSoundInCascade t.new [] owns_nothing }
 {
-    let counts = nodes::counts_of(&t.nodes, node.0).unwrap();
     if t.last_handle == u64::MAX {
         return Err(Error::NumbersSpent);
     }
@@ -99,9 +97,7 @@ pub fn add_handle(
     };
     handle_table::push(&mut t.handles, row)?;
     t.last_handle = number.0;
-    let more = counts_with_handle(counts, pins(mode));
-    nodes::set_counts(&mut t.nodes, node.0, more);
-    raise_bound_for(&mut t.nodes, node.0, me);
+    nodes::count_handle(&mut t.nodes, node.0, pins(mode) as u64, me);
     Ok(number)
 }
 
@@ -299,6 +295,59 @@ pub fn pin_in_memory(t: &mut Tables, me: Owner, row: HandleRow) -> Result<Handle
     Ok(handle)
 }
 
+/// Makes a Pinned handle of a loose handle's node and pins the loose handle too, as `pin_in_memory`
+/// does, without another look at the loose handle's row.
+#[tactic(auto, using(crate::proofs::CascadeStep::counting))]
+fn pin_in_place(t: &mut Tables, me: Owner, at: HandleAt) -> HandleNumber
+    requires whole { IsWhole t.old }
+    requires holder { MayOwnHandle (core_alone t.old) me }
+    requires place { slice_get t.old.ref_counts.handles.places.items at.place ≡ Some (alive at.row) }
+    requires owns { Owns (core_alone t.old) me at.row.number is_loose at.row }
+    requires left { t.old.ref_counts.last_handle < greatest }
+    requires room { vec_len t.old.ref_counts.handles.places < vec_capacity t.old.ref_counts.handles.places }
+    ensures { Does t.old (λ w w'. PinsInMemory w me at.row (Ok result) w') t.new }
+{
+    let number = HandleNumber(t.ref_counts.last_handle + 1);
+    let loose = HandleRow {
+        mode: Mode::LoosePinned,
+        ..at.row
+    };
+    let pin = HandleRow {
+        number,
+        node: at.row.node,
+        mode: Mode::Pinned,
+        owner: me,
+    };
+    let pins = 1 + !pins(at.row.mode) as u64;
+    nodes::count_handle(&mut t.ref_counts.nodes, at.row.node.0, pins, me);
+    handle_table::replace_row(&mut t.ref_counts.handles, at, loose);
+    let Ok(()) = handle_table::push(&mut t.ref_counts.handles, pin) else {
+        unreachable!();
+    };
+    t.ref_counts.last_handle = number.0;
+    number
+}
+
+/// Pins a loose handle as `pin_in_memory` does, given where its row is: in place if a number is
+/// left and no row has to move for the new handle.
+///
+/// # Errors
+///
+/// - `NumbersSpent` if no handle number is left: nothing changes.
+/// - `OutOfMemory` if the handles can't grow: nothing changes.
+fn pin_at(t: &mut Tables, me: Owner, at: HandleAt) -> Result<HandleNumber, Error>
+    requires whole { IsWhole t.old }
+    requires holder { MayOwnHandle (core_alone t.old) me }
+    requires place { slice_get t.old.ref_counts.handles.places.items at.place ≡ Some (alive at.row) }
+    requires owns { Owns (core_alone t.old) me at.row.number is_loose at.row }
+    ensures does { Does t.old (λ w w'. PinsInMemory w me at.row result w') t.new }
+{
+    if t.ref_counts.last_handle == u64::MAX || !handle_table::has_place(&t.ref_counts.handles) {
+        return pin_in_memory(t, me, at.row);
+    }
+    Ok(pin_in_place(t, me, at))
+}
+
 /// Pins a loose handle if its value is in memory: makes a Pinned handle as `pin_in_memory` does.
 /// Otherwise returns the key of the value, which has to be loaded first.
 ///
@@ -322,5 +371,5 @@ pub fn pin(t: &mut Tables, me: Owner, handle: HandleNumber) -> Result<Pinning, E
     if !is_in_memory(counts) {
         return Ok(Pinning::NeedsLoad(key_in(counts).unwrap()));
     }
-    Ok(Pinning::Pinned(pin_in_memory(t, me, at.row)?))
+    Ok(Pinning::Pinned(pin_at(t, me, at)?))
 }

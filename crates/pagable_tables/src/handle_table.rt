@@ -185,6 +185,13 @@ pub fn replace_row(handles: &mut Handles, at: HandleAt, row: HandleRow)
     handles.places[at.place] = Place::new(row, true);
 }
 
+/// Says whether a handle can be pushed without a request for memory and without moving others.
+pub fn has_place(handles: &Handles) -> bool
+    ensures { result ≡ true → vec_len handles.now.places < vec_capacity handles.now.places }
+{
+    handles.places.len() < handles.places.capacity()
+}
+
 /// Makes room for one more row: grows the vector, or, if it can't grow, removes the dead rows.
 /// Fails with AllocError if the vector can't grow and has no dead row.
 fn make_room(handles: &mut Handles) -> Result<(), AllocError>

@@ -3,25 +3,29 @@
 ghost use Rattle.indexmap.specs.IndexMap.{get};
 ghost use Rattle.pagable_pager_spec.specs.{
   Basics.{if_there, one, type_of},
-  Kinds.is_in_memory,
+  Kinds.{is_in_memory, is_pinning},
   Refusals.is_type,
   World.Cell,
-  declared.handle_row.Owner.Owner,
+  declared.{handle_row.{HandleRow.HandleRow, Owner.Owner}, mode.Mode.Mode},
 };
+ghost use Rattle.pagable_tables.specs.declared.nodes.Counts.{Counts};
 ghost use Rattle.pagable_tables.specs.{
   CascadeInvariant.is_worker,
+  CascadeSteps.{counts_after_release, falls_by_release, is_last_pin_without_key},
   Nodes.{cell_in, counts_at, key_in, most_worker_handles_at, pins_in, refs_at},
   NumberTable.{place_at, row_by},
 };
 ghost use Rattle.pagable_value_spec.specs.declared.data_key.OptionalDataKey.{OptionalDataKey};
 ghost use Rattle.std.specs.{
   Option.option_to_list,
-  Prelude.{IfNone, IsSome, None, Option, Some, false, true, ℕ, [], ◌++◌, ◌+◌, ◌/◌, ◌<◌, ◌==◌, ◌^◌, ◌||◌, ◌≡◌, ◌≢◌, ◌≤◌},
+  Prelude.{IfNone, IfSome, IsSome, None, Option, Some, false, if◌then◌else◌, is_some, nat_lt, not, true, ℕ, [], ◌&&◌},
+  Prelude.{◌++◌, ◌+◌, ◌/◌, ◌<◌, ◌==◌, ◌^◌, ◌||◌, ◌≡◌, ◌≢◌, ◌≤◌},
 };
 
-use crate::kinds::is_worker;
+use crate::kinds::{is_worker, pins};
 use crate::number_table::{NumberTable, chunk_of, place_of};
-use pagable_pager_spec::handle_row::Owner;
+use pagable_pager_spec::Mode;
+use pagable_pager_spec::handle_row::{HandleRow, Owner};
 use pagable_value_spec::{ArcRef, DataKey, Kind, OptionalDataKey};
 use std::marker::Model;
 use std::sync::Arc;
@@ -110,6 +114,40 @@ impl PackedCounts {
             node_type: self.node_type,
         }
     }
+
+    /// Says whether the node has a key.
+    fn has_key(&self) -> bool
+        ensures { result ≡ nat_lt 0 self.now.key }
+    {
+        self.key_high != 0 || self.key_low != 0
+    }
+
+    /// Says whether a handle of this mode is the last pin of a cell without a key.
+    fn is_last_pin_without_key(&self, mode: Mode) -> bool
+        ensures { result ≡ is_last_pin_without_key self.now mode }
+    {
+        self.pins == 1 && !self.has_key() && matches!(mode, Mode::LoosePinned | Mode::Pinned)
+    }
+
+    /// Counts one handle less, or only its pin less if it `stays`, and one handle more if an entry
+    /// was `listed`. Says whether the node starts dying by this: then its `next` is `top`.
+    fn count_release(&mut self, pinning: bool, stays: bool, listed: bool, top: u64) -> bool
+        requires pins { one pinning ≤ self.old.pins }
+        requires holds { 1 ≤ self.old.holds }
+        requires small { self.old.holds < 2 ^ 63 }
+        ensures counts { self.new ≡ counts_after_release self.old pinning stays listed top }
+        ensures falls { result ≡ falls_by_release self.old pinning stays listed }
+    {
+        self.pins -= pinning as u64;
+        self.holds = self.holds - !stays as u64 + listed as u64;
+        let loses_value = pinning && self.pins == 0 && self.has_key();
+        let falls = !self.is_dying && (self.holds == 0 || loses_value);
+        if falls {
+            self.is_dying = true;
+            self.next = top;
+        }
+        falls
+    }
 }
 
 /// A node's row.
@@ -121,6 +159,58 @@ pub struct NodeRow {
     pub references: Vec<ArcRef>,
     /// An upper bound of how many of the node's handles are owned by workers.
     pub worker_bound: u64,
+}
+
+impl NodeRow {
+    /// Counts the handle of this row less, or only its pin less if it `stays`, and one handle more
+    /// if an entry was `listed`. Says whether the node starts dying by this: then its `next` is
+    /// `top`.
+    fn count_release(&mut self, row: HandleRow, stays: bool, listed: bool, top: u64) -> bool
+        requires pins { one (is_pinning row.mode) ≤ self.old.counts.pins }
+        requires holds { 1 ≤ self.old.counts.holds }
+        requires small { self.old.counts.holds < 2 ^ 63 }
+        ensures counts { self.new.counts
+            ≡ counts_after_release self.old.counts (is_pinning row.mode) stays listed top }
+        ensures falls { result ≡ falls_by_release self.old.counts (is_pinning row.mode) stays listed }
+        ensures references { self.new.references ≡ self.old.references }
+        ensures bound { self.old.worker_bound ≤ self.new.worker_bound
+            + (if stays then 0 else one (is_worker row.owner)) }
+    {
+        if !stays && is_worker(row.owner) {
+            self.worker_bound = self.worker_bound.saturating_sub(1);
+        }
+        self.counts
+            .count_release(pins(row.mode), stays, listed, top)
+    }
+
+    /// Counts the handle of this row less as `count_release` does, if no entry has to be listed.
+    /// Returns None, and changes nothing, if `lists` is set and the handle is the last pin of a
+    /// cell without a key.
+    fn count_unlisted_release(
+        &mut self,
+        row: HandleRow,
+        stays: bool,
+        lists: bool,
+        top: u64,
+    ) -> Option<bool>
+        requires pins { one (is_pinning row.mode) ≤ self.old.counts.pins }
+        requires holds { 1 ≤ self.old.counts.holds }
+        requires small { self.old.counts.holds < 2 ^ 63 }
+        ensures wanted { (lists && is_last_pin_without_key self.old.counts row.mode) ≡ not (is_some result) }
+        ensures counts { self.new.counts ≡ (if is_some result
+            then counts_after_release self.old.counts (is_pinning row.mode) stays false top else self.old.counts) }
+        ensures falls { IfSome result (λ falls. falls
+            ≡ falls_by_release self.old.counts (is_pinning row.mode) stays false) }
+        ensures references { self.new.references ≡ self.old.references }
+        ensures bound { IfSome result (λ falls. self.old.worker_bound ≤ self.new.worker_bound
+            + (if stays then 0 else one (is_worker row.owner))) }
+        ensures same_bound { IfNone result (self.new.worker_bound ≡ self.old.worker_bound) }
+    {
+        if lists && self.counts.is_last_pin_without_key(row.mode) {
+            return None;
+        }
+        Some(self.count_release(row, stays, false, top))
+    }
 }
 
 /// Returns the counts of a node, None if there is no such node.
@@ -253,6 +343,96 @@ pub fn raise_bound_for(nodes: &mut Nodes, node: u64, owner: Owner)
     if is_worker(owner) {
         let bound = worker_bound_of(nodes, node).saturating_add(1);
         set_worker_bound(nodes, node, bound);
+    }
+}
+
+/// Counts one more handle of a node, owned by `owner`, and so many more pins, in place. The bound of
+/// how many of its handles are owned by workers stops at 2^64 - 1.
+#[tactic(auto, unfolding(crate::specs::NumberTable::place_at, crate::specs::NumberTable::row_by))]
+pub fn count_handle(nodes: &mut Nodes, node: u64, pins: u64, owner: Owner)
+    requires live { IsSome (counts_at nodes.old node) }
+    requires few { pins ≤ 2 }
+    requires pins { (c : Counts) → counts_at nodes.old node ≡ Some c → c.pins < 2 ^ 63 }
+    requires holds { (c : Counts) → counts_at nodes.old node ≡ Some c → c.holds < 2 ^ 63 }
+    ensures here { (c : Counts) → counts_at nodes.old node ≡ Some c
+        → counts_at nodes.new node ≡ Some (record c { pins = c.pins + pins; holds = c.holds + 1 }) }
+    ensures bound { (k : ℕ) → k < 2 ^ 64 → k ≤ most_worker_handles_at nodes.old node + one (is_worker owner)
+        → k ≤ most_worker_handles_at nodes.new node }
+    ensures bounds { (q : ℕ) → most_worker_handles_at nodes.old q ≤ most_worker_handles_at nodes.new q }
+    ensures others { (q : ℕ) → q ≢ node → counts_at nodes.new q ≡ counts_at nodes.old q }
+    ensures refs { (q : ℕ) → refs_at nodes.new q ≡ refs_at nodes.old q }
+{
+    let rows = &mut nodes.chunks[chunk_of(node)];
+    if let Some(row) = &mut rows[place_of(node)] {
+        row.counts.pins += pins;
+        row.counts.holds += 1;
+        if is_worker(owner) {
+            row.worker_bound = row.worker_bound.saturating_add(1);
+        }
+    }
+}
+
+/// Counts the handle of this row less at its node, or only its pin less if it `stays`, in place, and
+/// one handle more if an entry was `listed`. Says whether the node starts dying by this: then its
+/// `next` is `top`.
+#[tactic(auto, unfolding(crate::specs::NumberTable::place_at, crate::specs::NumberTable::row_by))]
+pub fn count_release(nodes: &mut Nodes, row: HandleRow, stays: bool, listed: bool, top: u64) -> bool
+    requires live { IsSome (counts_at nodes.old row.node.0) }
+    requires pins { (c : Counts) → counts_at nodes.old row.node.0 ≡ Some c → one (is_pinning row.mode) ≤ c.pins }
+    requires holds { (c : Counts) → counts_at nodes.old row.node.0 ≡ Some c → 1 ≤ c.holds }
+    requires small { (c : Counts) → counts_at nodes.old row.node.0 ≡ Some c → c.holds < 2 ^ 63 }
+    ensures here { (c : Counts) → counts_at nodes.old row.node.0 ≡ Some c → counts_at nodes.new row.node.0
+        ≡ Some (counts_after_release c (is_pinning row.mode) stays listed top) }
+    ensures falls { (c : Counts) → counts_at nodes.old row.node.0 ≡ Some c → result
+        ≡ falls_by_release c (is_pinning row.mode) stays listed }
+    ensures others { (q : ℕ) → q ≢ row.node.0 → counts_at nodes.new q ≡ counts_at nodes.old q }
+    ensures refs { (q : ℕ) → refs_at nodes.new q ≡ refs_at nodes.old q }
+    ensures bound { most_worker_handles_at nodes.old row.node.0 ≤ most_worker_handles_at nodes.new row.node.0
+        + (if stays then 0 else one (is_worker row.owner)) }
+    ensures bounds { (q : ℕ) → q ≢ row.node.0 → most_worker_handles_at nodes.new q
+        ≡ most_worker_handles_at nodes.old q }
+{
+    let rows = &mut nodes.chunks[chunk_of(row.node.0)];
+    match &mut rows[place_of(row.node.0)] {
+        Some(found) => found.count_release(row, stays, listed, top),
+        None => unreachable!(),
+    }
+}
+
+/// Counts the handle of this row less as `count_release` does, if no entry has to be listed.
+/// Returns None, and changes nothing, if `lists` is set and the handle is the last pin of a cell
+/// without a key.
+#[tactic(auto, unfolding(crate::specs::NumberTable::place_at, crate::specs::NumberTable::row_by))]
+pub fn count_unlisted_release(
+    nodes: &mut Nodes,
+    row: HandleRow,
+    stays: bool,
+    lists: bool,
+    top: u64,
+) -> Option<bool>
+    requires live { IsSome (counts_at nodes.old row.node.0) }
+    requires pins { (c : Counts) → counts_at nodes.old row.node.0 ≡ Some c → one (is_pinning row.mode) ≤ c.pins }
+    requires holds { (c : Counts) → counts_at nodes.old row.node.0 ≡ Some c → 1 ≤ c.holds }
+    requires small { (c : Counts) → counts_at nodes.old row.node.0 ≡ Some c → c.holds < 2 ^ 63 }
+    ensures wanted { (c : Counts) → counts_at nodes.old row.node.0 ≡ Some c
+        → (lists && is_last_pin_without_key c row.mode) ≡ not (is_some result) }
+    ensures here { (c : Counts) → counts_at nodes.old row.node.0 ≡ Some c → counts_at nodes.new row.node.0
+        ≡ Some (if is_some result then counts_after_release c (is_pinning row.mode) stays false top else c) }
+    ensures falls { IfSome result (λ falls. (c : Counts) → counts_at nodes.old row.node.0 ≡ Some c → falls
+        ≡ falls_by_release c (is_pinning row.mode) stays false) }
+    ensures others { (q : ℕ) → q ≢ row.node.0 → counts_at nodes.new q ≡ counts_at nodes.old q }
+    ensures refs { (q : ℕ) → refs_at nodes.new q ≡ refs_at nodes.old q }
+    ensures bound { IfSome result (λ falls. most_worker_handles_at nodes.old row.node.0
+        ≤ most_worker_handles_at nodes.new row.node.0 + (if stays then 0 else one (is_worker row.owner))) }
+    ensures same_bound { IfNone result (most_worker_handles_at nodes.new row.node.0
+        ≡ most_worker_handles_at nodes.old row.node.0) }
+    ensures bounds { (q : ℕ) → q ≢ row.node.0 → most_worker_handles_at nodes.new q
+        ≡ most_worker_handles_at nodes.old q }
+{
+    let rows = &mut nodes.chunks[chunk_of(row.node.0)];
+    match &mut rows[place_of(row.node.0)] {
+        Some(found) => found.count_unlisted_release(row, stays, lists, top),
+        None => unreachable!(),
     }
 }
 

@@ -16,7 +16,7 @@ returns-in_err-at c = rw (failed _ c.from_residual.ensures.1) (nothing-does c.re
 pub returns : goal.returns
 returns c =
     let row = c.in_ok-at.at.row in
-    does-as c.in_ok-pin_in_memory.ensures.does
+    does-as c.in_ok-pin_at.ensures.does
     (λ storage m.
     let w = core_of c.args.t.now storage in
     let here : is_here w row.node.0 ≡ true = search rules in
@@ -27,10 +27,10 @@ returns c =
     } in
     record { pins = (row, owns, (here, m.pinned.0, rw c.in_ok-at.ensures.number at m.pinned.1)); refused = tt })
 
-pub returns-in_err-pin_in_memory : goal.returns-in_err-pin_in_memory
-returns-in_err-pin_in_memory c =
+pub returns-in_err-pin_at : goal.returns-in_err-pin_at
+returns-in_err-pin_at c =
     let row = c.in_ok-at.at.row in
-    rw (failed _ c.from_residual-in_err-pin_in_memory.ensures.1) (does-as c.in_err-pin_in_memory.ensures.does
+    rw (failed _ c.from_residual-in_err-pin_at.ensures.1) (does-as c.in_err-pin_at.ensures.does
     (λ storage m.
     let w = core_of c.args.t.now storage in
     let here : is_here w row.node.0 ≡ true = search rules in
