@@ -2,13 +2,14 @@
 use Rattle.pagable_file.proofs.{Fetching.same_number, Places.{all_named, all_stored, no_name_waits, none_waits}, Settling.shown_is_committed}
 use Rattle.pagable_file.specs.{
   Blobs.{CanBeKeyIfSome, Fits, LeavesCommitted, Saved, SavedAs, Settled, WaitingBlobs, WaitingRoots, Wrote, is_honest_view, pending_root_row, pending_row},
-  Blobs.{put_all, roots_with, stored_with, unless},
+  Blobs.{put_all, roots_unless, roots_with, stored_with, unless},
+  Closing.named_blob,
   Rows.{blob_tree, blobs_in, root_tree, roots_in},
 }
 use Rattle.pagable_value_spec.specs.{Blob.Blob, Stored.Adds}
 use Rattle.sqlite_trees.specs.{Tree.Trees, View.{IsClean, View, doubt}}
 use Rattle.sqlite_value.specs.Order.{Row}
-use Rattle.std.proofs.Common.{Bool, IsTrue, List, Option, Some, ap, arith, false, inl, inr, ℕ, [], ◌∙◌, ◌≡◌, ◌≤◌, ◌⊎◌}
+use Rattle.std.proofs.Common.{Bool, IsTrue, List, Option, Some, ap, arith, false, inl, inr, refl, ℕ, [], ◌∙◌, ◌≡◌, ◌≤◌, ◌⊎◌}
 use Rattle.std.specs.{BTreeMap.IsOrdered, List.AllByRecursion as Each, Ordering.int_cmp}
 
 module _ (waiting : WaitingBlobs) (roots : WaitingRoots) (ordered : IsOrdered int_cmp waiting) (roots_ordered : IsOrdered int_cmp roots)
@@ -81,5 +82,15 @@ pub found_last : (again : Bool) (waiting : WaitingBlobs) (rows now : List Row) (
     → unless again (stored_with waiting now) key ≡ Some found → found ≡ blob
 found_last again waiting rows now key blob found there usable none kept here =
     grind (arith, ap (λ (f : ℕ → Option Blob). f key) (none_waits waiting now none))
+
+-- what a name durably stood for, and the blob under its key, are found again where nothing waits
+pub named_last : (was again : Bool) (waiting : WaitingBlobs) (names : WaitingRoots) (rows now roots then : List Row) (name : List ℕ) (key : ℕ) (blob : Blob)
+    → was ≡ false → roots_unless was (roots_in roots) name ≡ Some key → unless was (blobs_in rows) key ≡ Some blob → again ≡ false
+    → waiting.entries ≡ [] → names.entries ≡ [] → now ≡ rows → then ≡ roots
+    → named_blob (roots_unless again (roots_with names then) name) (unless again (stored_with waiting now)) ≡ Some (key, blob)
+named_last was again waiting names rows now roots then name key blob in_use stood there usable none unnamed kept stays =
+    let named : roots_with names then name ≡ Some key = ap (λ f. f name) (no_name_waits names then unnamed ∙ ap roots_in stays) ∙ rw in_use at stood in
+    let found : stored_with waiting now key ≡ Some blob = ap (λ f. f key) (none_waits waiting now none ∙ ap blobs_in kept) ∙ rw in_use at there in
+    rw (usable, named, found) refl
 
 pub ruleset committing = (committed_blobs, committed_roots, stored_stays, roots_stay, blobs_kept, roots_kept, crash_holds)

@@ -14,6 +14,7 @@ pub mod laws;
 pub mod listing;
 mod lookup;
 pub mod name_lock;
+pub mod named_again;
 mod naming;
 pub mod open_error;
 pub mod pending;

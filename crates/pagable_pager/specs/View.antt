@@ -176,6 +176,11 @@ pub record AsksStorage {N S E H K V : Type 0} (tells : Storages S E N H K V) (ol
   pub closed : tells.is_closed new.storage ≡ tells.is_closed old.storage
   pub only : ChangesOnlyStorage old new
 
+-- each name stands for what it stood for, and durably for what it durably stood for, if the storage is honest afterwards
+abbrev pub SameNames : {S E N H K V : Type 0} → Storages S E N H K V → S → S → Type 0
+SameNames tells old new = IsTrue (tells.is_honest new) → (tells.roots new ≡ tells.roots old)
+    × (tells.roots_flushed new ≡ tells.roots_flushed old)
+
 -- a call that brings no value into memory, and keeps the pager's invariant
 pub record CallsKeepingInvariant {N S E H K V : Type 0} (tells : Storages S E N H K V) (says : E → Values N)
     (old : PagerView N S E) (makes : Core → Core → Type 0) (new : PagerView N S E) : Type 0 where

@@ -7,7 +7,7 @@ ghost use Rattle.pagable_load.specs.{AccessView.{AsksRoot, values_at}, PinStart.
 ghost use Rattle.pagable_pager.specs.{
   Polling.PollCall,
   View.{AsksStorage, Calls, ChangesOnlyTables, FewerValues, FitsWant, IsNamedFor, KeepsWorkers, ReadsAs},
-  View.{SameValues, from_cache_or_store, may_call, pager_core, pager_state, type_of_root},
+  View.{SameNames, SameValues, from_cache_or_store, may_call, pager_core, pager_state, type_of_root},
 };
 ghost use Rattle.pagable_pager_spec.specs.{
   Calls.{CloseCall, FetchCall, FlushCall, StoreCall},
@@ -21,7 +21,7 @@ ghost use Rattle.pagable_value_spec.specs.{Blob.{Blob, key_of}, Stored.{IsMemory
 ghost use Rattle.std.specs.{
   Arc.arc_value,
   Option.option_map,
-  Prelude.{IfErr, IfNone, IfOk, IsTrue, None, OnErr, OnOk, Option, Some, false, nat_lt, true, ℕ, ◌≡◌},
+  Prelude.{IfErr, IfNone, IfOk, IsTrue, List, None, OnErr, OnOk, Option, Some, false, nat_lt, true, ℕ, ◌≡◌},
 };
 
 // A function whose name ends in `_for` does what the function without this ending does, for the
@@ -249,6 +249,7 @@ impl<E: Env<Node: NodeSet<E>>, S: PagableStorage<E>> Pager<E, S> {
             (λ w w'. FetchCall w key (result_map (λ d. blob_of (arc_value d)) result) w') self.new }
         ensures named { IfOk result (λ found. key_of E.Hash.digest (blob_of (arc_value found)) ≡ key) }
         ensures refused { IfErr result (RefusesFetch key None (S.failed self.old.storage) (S.failed self.new.storage)) }
+        ensures same_names { SameNames S.PagableStorage self.old.storage self.new.storage }
     {
         self.storage.fetch_data_blocking(alloc, key)
     }
@@ -270,6 +271,7 @@ impl<E: Env<Node: NodeSet<E>>, S: PagableStorage<E>> Pager<E, S> {
         ensures named { IfReady result (λ r. IfOk r (λ found. key_of E.Hash.digest (blob_of (arc_value found)) ≡ key)) }
         ensures refused { IfReady result (λ r. IfErr r
             (RefusesFetch key None (S.failed self.old.storage) (S.failed self.new.storage))) }
+        ensures same_names { SameNames S.PagableStorage self.old.storage self.new.storage }
         ensures armed { OnPending result (IsArmed cx.new) }
         ensures kept { Keeps cx.old cx.new }
     {
@@ -291,6 +293,11 @@ impl<E: Env<Node: NodeSet<E>>, S: PagableStorage<E>> Pager<E, S> {
         ensures refused { IfErr result (λ e. (found : Option Blob)
             × RefusesStore (blob_of blob) found (S.is_closed self.old.storage) (S.failed self.old.storage)
             (S.failed self.new.storage) e) }
+        ensures same_names { IsTrue (S.is_honest self.new.storage)
+            → S.roots self.new.storage ≡ S.roots self.old.storage }
+        ensures durable_names { IsTrue (S.is_honest self.new.storage)
+            → StaysOrTakes (S.roots self.old.storage) (S.roots_flushed self.old.storage)
+            (S.roots_flushed self.new.storage) }
     {
         self.storage.store_data(alloc, blob)
     }
@@ -314,6 +321,11 @@ impl<E: Env<Node: NodeSet<E>>, S: PagableStorage<E>> Pager<E, S> {
         ensures refused { IfErr result (λ e. (found : Option Blob)
             × RefusesStore (blob_of blob) found (S.is_closed self.old.storage) (S.failed self.old.storage)
             (S.failed self.new.storage) e) }
+        ensures same_names { IsTrue (S.is_honest self.new.storage)
+            → S.roots self.new.storage ≡ S.roots self.old.storage }
+        ensures durable_names { IsTrue (S.is_honest self.new.storage)
+            → StaysOrTakes (S.roots self.old.storage) (S.roots_flushed self.old.storage)
+            (S.roots_flushed self.new.storage) }
     {
         self.storage.store_keyed(alloc, key, blob)
     }
@@ -347,6 +359,7 @@ impl<E: Env<Node: NodeSet<E>>, S: PagableStorage<E>> Pager<E, S> {
     pub fn close(&mut self) -> Result<(), Error>
         ensures calls { Calls FewerValues S.PagableStorage self.old (λ w w'. CloseCall w result w') self.new }
         ensures honest { IsTrue (S.is_honest self.new.storage) → IsTrue (S.is_honest self.old.storage) }
+        ensures no_names { (name : List ℕ) → S.roots self.new.storage name ≡ None }
     {
         self.storage.close();
         release::close(&mut self.tables, &mut self.values);
@@ -443,6 +456,7 @@ impl<E: Env<Node: NodeSet<E>>, S: PagableStorage<E>> Pager<E, S> {
         ensures named { IfOk result (IsNamedFor E.Hash.digest (λ d. blob_of (arc_value d))
             (pager_core S.PagableStorage self.old) load want) }
         ensures only { SameValues self.old self.new }
+        ensures same_names { SameNames S.PagableStorage self.old.storage self.new.storage }
     {
         self.load_fetch_for(Owner::Caller, alloc, load, want)
     }
@@ -464,6 +478,7 @@ impl<E: Env<Node: NodeSet<E>>, S: PagableStorage<E>> Pager<E, S> {
         ensures named { IfOk result (IsNamedFor E.Hash.digest (λ d. blob_of (arc_value d))
             (pager_core S.PagableStorage self.old) load want) }
         ensures only { SameValues self.old self.new }
+        ensures same_names { SameNames S.PagableStorage self.old.storage self.new.storage }
     {
         match want {
             FetchTarget::Root => {
@@ -492,6 +507,7 @@ impl<E: Env<Node: NodeSet<E>>, S: PagableStorage<E>> Pager<E, S> {
         ensures kept { KeepsWorkers (pager_core S.PagableStorage self.old) (pager_core S.PagableStorage self.new) }
         ensures named { IfOk result (λ found. key_of E.Hash.digest (blob_of (arc_value found)) ≡ key) }
         ensures only { SameValues self.old self.new }
+        ensures same_names { SameNames S.PagableStorage self.old.storage self.new.storage }
     {
         let row = checks::load_row(&self.tables, me, load)?;
         if row.key != key {

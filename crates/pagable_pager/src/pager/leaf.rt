@@ -5,7 +5,7 @@ ghost use Rattle.pagable_core.specs.Data.{blob_of};
 ghost use Rattle.pagable_load.specs.{AccessView.values_at, Decoding.IsReadAs};
 ghost use Rattle.pagable_pager.specs.{
   Leaf.{LeafBegun, LeafDropped, LeafFetched, LeafPinned, LeafUnbegun},
-  View.{Between, BetweenIfHonest, pager_core},
+  View.{Between, BetweenIfHonest, SameNames, pager_core},
 };
 ghost use Rattle.pagable_pager_spec.specs.Access.{PinRun};
 ghost use Rattle.pagable_tables.specs.{HandleTable.room, Leaf.IsLeaf};
@@ -80,6 +80,7 @@ impl<E: Env<Node: NodeSet<E>>, S: PagableStorage<E>> Pager<E, S> {
         ensures refused { BetweenIfHonest E.Node.NodeSet E.Env E.Hash.KeyHash S.PagableStorage self.old self.new
             (λ v s s'. IfErr result (λ e. PinRun v s handle (Err e) s')) }
         ensures honest { IsTrue (S.is_honest self.new.storage) → IsTrue (S.is_honest self.old.storage) }
+        ensures same_names { SameNames S.PagableStorage self.old.storage self.new.storage }
         ensures environment { self.new.environment ≡ self.old.environment }
     {
         let leaf = match leaf::prepare_pin(&mut self.tables, Owner::Caller, handle) {

@@ -1,7 +1,7 @@
 //! Names of root keys in a pager's storage.
 
 ghost use Rattle.pagable_core.specs.Roots.{HasBlobIfKey, RefusesRoot, Sets, StaysOrTakes};
-ghost use Rattle.pagable_pager.specs.View.{AsksStorage};
+ghost use Rattle.pagable_pager.specs.View.{AsksStorage, SameNames};
 ghost use Rattle.pagable_pager_spec.specs.Calls.{Asked};
 ghost use Rattle.pagable_value_spec.specs.Stored.{IsMemoryOrFailure};
 ghost use Rattle.std.specs.Prelude.{IfErr, IfOk, IsTrue, OnErr, OnOk, ◌≡◌};
@@ -23,9 +23,7 @@ impl<E: Env<Node: NodeSet<E>>, S: Roots<E>> Pager<E, S> {
         ensures asks { AsksStorage S.PagableStorage self.old Asked self.new }
         ensures ok { IsTrue (S.PagableStorage.is_honest self.new.storage) → IfOk result
             (λ key. key ≡ S.PagableStorage.roots self.old.storage name.now) }
-        ensures same_names { IsTrue (S.PagableStorage.is_honest self.new.storage)
-            → (S.PagableStorage.roots self.new.storage ≡ S.PagableStorage.roots self.old.storage)
-            × (S.PagableStorage.roots_flushed self.new.storage ≡ S.PagableStorage.roots_flushed self.old.storage) }
+        ensures same_names { SameNames S.PagableStorage self.old.storage self.new.storage }
         ensures refused { IfErr result
             (IsMemoryOrFailure (S.PagableStorage.failed self.old.storage) (S.PagableStorage.failed self.new.storage)) }
     {
