@@ -1,3 +1,4 @@
 mod Environment
+mod Names
 mod Published
 mod Working

@@ -2,19 +2,19 @@
 //! from the contracts of the calls.
 #![tactic(auto)]
 
-ghost use Rattle.pagable_core.specs.Data.{blob_of};
+ghost use Rattle.pagable_core.specs.{Data.blob_of, Roots.Sets};
 ghost use Rattle.pagable_load.specs.AccessView.{values_at};
 ghost use Rattle.pagable_pageout.specs.Turns.{plain};
 ghost use Rattle.pagable_pager.specs.View.{BetweenIfHonest, pager_state};
 ghost use Rattle.pagable_theorems.specs.CallerLaws.{Operations};
 ghost use Rattle.pagable_value_spec.specs.Blob.{key_of};
-ghost use Rattle.std.specs.{Arc.arc_value, Prelude.{IfOk, IfSome, IsTrue, ◌≡◌}};
+ghost use Rattle.std.specs.{Arc.arc_value, Prelude.{IfOk, IfSome, IsTrue, Some, ◌≡◌}};
 ghost use Rattle.uses.specs.{Again.ShowsSame, Published.IsPublished};
 
 use pagable::paging::{deserialize_pagable_data, page_out_pending, pin};
 use pagable::{
     DataKey, Env, Error, HandleNumber, KeyHash, NodeSet, OfNode, PagableData, PagableStorage,
-    PageOutError, Pager,
+    PageOutError, Pager, Roots,
 };
 use std::alloc::Global;
 use std::sync::Arc;
@@ -68,6 +68,64 @@ pub fn read_published<E: Env<Node: NodeSet<E>>, S: PagableStorage<E>, T: OfNode<
         pager.old.environment) (pager_state S.PagableStorage pager.old) T.held key T.TYPE (arc_value value)) }
 {
     deserialize_pagable_data(alloc, pager, key)
+}
+
+/// Publishes a blob under a name: stores the blob, lets the name stand for the key of its content,
+/// and flushes, so that whoever opens the storage later, after a crash too, finds the blob by the
+/// name. Ok means, unless the storage took a wrong answer of a layer below as true: the name durably
+/// stands for the key that is returned (`stands`), the blob is durably stored under it (`stored`),
+/// each other name durably stands for what it stood for (`others`), and `root` of the name returns
+/// the key until the name is set again (`found`). An error means nothing of this: the blob may be
+/// stored or not, and the name may stand for its key or for what it stood for.
+///
+/// # Errors
+///
+/// - those of `Pager::store`, `Pager::set_root` and `Pager::flush`.
+pub fn publish<E: Env<Node: NodeSet<E>>, S: Roots<E>>(
+    alloc: Global,
+    pager: &mut Pager<E, S>,
+    name: &str,
+    blob: PagableData,
+) -> Result<DataKey, Error>
+    ensures key { IfOk result (λ key. key ≡ key_of E.Hash.digest (blob_of blob)) }
+    ensures stands { IsTrue (S.PagableStorage.is_honest pager.new.storage)
+        → IfOk result (λ key. S.PagableStorage.roots_flushed pager.new.storage name.now ≡ Some key) }
+    ensures stored { IsTrue (S.PagableStorage.is_honest pager.new.storage)
+        → IfOk result (λ key. S.PagableStorage.flushed pager.new.storage key ≡ Some (blob_of blob)) }
+    ensures others { IsTrue (S.PagableStorage.is_honest pager.new.storage)
+        → IfOk result (λ key. Sets name.now (Some key) (S.PagableStorage.roots pager.old.storage)
+        (S.PagableStorage.roots_flushed pager.new.storage)) }
+    ensures found { IsTrue (S.PagableStorage.is_honest pager.new.storage)
+        → IfOk result (λ key. S.PagableStorage.roots pager.new.storage name.now ≡ Some key) }
+    ensures honest { IsTrue (S.PagableStorage.is_honest pager.new.storage)
+        → IsTrue (S.PagableStorage.is_honest pager.old.storage) }
+{
+    let key = pager.store(alloc, blob)?;
+    pager.set_root(alloc, name, Some(key))?;
+    pager.flush()?;
+    Ok(key)
+}
+
+/// Publishes a blob under a name, does other work with blobs, and looks the name up: it stands for
+/// the key of the published blob, since only setting a name changes what it stands for.
+///
+/// # Errors
+///
+/// - those of `publish`, `Pager::store`, `Pager::fetch` and `Pager::root`.
+pub fn published_root<E: Env<Node: NodeSet<E>>, S: Roots<E>>(
+    alloc: Global,
+    pager: &mut Pager<E, S>,
+    name: &str,
+    blob: PagableData,
+    other: PagableData,
+) -> Result<Option<DataKey>, Error>
+    ensures { IsTrue (S.PagableStorage.is_honest pager.new.storage)
+        → IfOk result (λ found. found ≡ Some (key_of E.Hash.digest (blob_of blob))) }
+{
+    publish(alloc, pager, name, blob)?;
+    let key = pager.store(alloc, other)?;
+    pager.fetch(alloc, key)?;
+    pager.root(name)
 }
 
 /// Work with a pager: any calls of it, pins, readings and page-outs.
