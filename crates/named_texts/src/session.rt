@@ -1,6 +1,7 @@
 //! Named handles over a storage of texts.
 
-ghost use Rattle.named_texts.specs.Named.{GivesName, IsFree, KeepsOtherNames, Serves};
+ghost use Rattle.named_texts.specs.Named.{GivesName, HasLaterHandle, IsFree, KeepsOtherNames, Serves};
+ghost use Rattle.std.specs.Prelude.{OnOk};
 
 use crate::command::{Command, Verb};
 use crate::counts::Counts;
@@ -160,7 +161,8 @@ fn clone<R: Wait, H: KeyHash, S: PagableStorage<TextEnv<H>>>(
     name: &str,
     new: &str,
 ) -> Result<Answer, Refusal>
-    ensures { GivesName new.now result names.old names.new }
+    ensures given { GivesName new.now result names.old names.new }
+    ensures later { OnOk result (HasLaterHandle name.now new.now names.old names.new) }
 {
     let handle = names.find(name)?;
     let room = names.make_room(alloc, new)?;

@@ -1,6 +1,7 @@
 mod Committing
 mod Copying
 mod Each
+mod Entries
 mod Fetching
 mod Flawed
 mod Keys

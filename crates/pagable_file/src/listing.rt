@@ -1,8 +1,12 @@
 //! A list of a file's blobs, without their bytes.
 
-ghost use Rattle.pagable_file.specs.Blobs.{LeavesCommitted, Settled, is_honest_view};
+ghost use Rattle.pagable_file.specs.{
+  Blobs.{LeavesCommitted, Settled, is_honest_view},
+  Listed.{LeavesOutNoBlob, ListsRows, entry_at},
+  Rows.blob_tree,
+};
 ghost use Rattle.pagable_value_spec.specs.Stored.{IsMemoryOrFailure};
-ghost use Rattle.std.specs.Prelude.{IfErr, IsTrue, ◌≡◌, ◌≤◌};
+ghost use Rattle.std.specs.Prelude.{IfErr, IfOk, IsTrue, ◌≡◌, ◌≤◌};
 
 use crate::file_blobs::FileBlobs;
 use crate::lookup::read_row_at;
@@ -30,13 +34,15 @@ pub struct ListedBlob {
 
 /// Reads the list entry of the row at `place` in the table of blobs. Returns None if there is no
 /// row, or the row has no key.
-#[tactic(auto, using(crate::proofs::Settling::stays_then))]
+#[tactic(auto, using(crate::proofs::Settling::stays_then), unfolding(crate::specs::Listed::entry_of_row))]
 fn list_row<S: Store>(
     store: &mut S,
     row: &mut Row,
     place: i64,
 ) -> Result<Option<ListedBlob>, StoreError>
     requires settled { Settled (S.view store.old) }
+    ensures entry { IsTrue (is_honest_view (S.view store.new))
+        → IfOk result (λ entry. entry ≡ entry_at ((S.view store.old).committed blob_tree) place) }
     ensures stays { LeavesCommitted (S.view store.old) (S.view store.new) }
 {
     if !read_row_at(store, BLOBS, place, row)? {
@@ -62,6 +68,10 @@ fn list_all<S: Store>(
     row: &mut Row,
 ) -> Result<Vec<ListedBlob>, StoreError>
     requires settled { Settled (S.view store.old) }
+    ensures all { IsTrue (is_honest_view (S.view store.new))
+        → IfOk result (λ all. LeavesOutNoBlob ((S.view store.old).committed blob_tree) all.items) }
+    ensures rows { IsTrue (is_honest_view (S.view store.new))
+        → IfOk result (λ all. ListsRows ((S.view store.old).committed blob_tree) all.items) }
     ensures stays { LeavesCommitted (S.view store.old) (S.view store.new) }
 {
     let places = all_places(alloc, store, row, BLOBS)?;
@@ -83,6 +93,10 @@ impl<E: Env, S: Store> FileBlobs<E, S> {
     /// - `OutOfMemory`.
     /// - `Storage` only if the call raised the count of failures.
     pub fn list(&mut self, alloc: Global) -> Result<Vec<ListedBlob>, Error>
+        ensures all { IsTrue (is_honest_view (S.view self.new.store))
+            → IfOk result (λ all. LeavesOutNoBlob ((S.view self.old.store).committed blob_tree) all.items) }
+        ensures rows { IsTrue (is_honest_view (S.view self.new.store))
+            → IfOk result (λ all. ListsRows ((S.view self.old.store).committed blob_tree) all.items) }
         ensures same { IsTrue (is_honest_view (S.view self.new.store)) → (S.view self.new.store).committed
             ≡ (S.view self.old.store).committed }
         ensures waits { (self.new.waiting ≡ self.old.waiting) × (self.new.waiting_roots ≡ self.old.waiting_roots) }

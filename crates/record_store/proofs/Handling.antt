@@ -1,12 +1,13 @@
 -- What the calls on several handles amount to, one handle after another.
 use Rattle.pagable_calls.specs.{Cells.{OpensCell, Releases, cache-gives, cache-refuses, cell-is-new}, PageOuts.Clones, TypedReferences.Refers}
 use Rattle.pagable_nodes.specs.declared.{one_node.OneNode.OneNode, records.Record.Record}
-use Rattle.pagable_pager.specs.View.{AsksStorage, PagerView, Storages}
+use Rattle.pagable_pager.specs.View.{AsksStorage, PagerView, Storages, pager_core}
 use Rattle.pagable_pager_spec.specs.{Basics.{ArcRef, Error, HandleNumber}, Calls.FlushCall, World.{Core, Values}}
 use Rattle.pagable_traits.specs.{References.{loose_kind, raw_reference}, declared.raw_ref.RawRef.RawRef}
 use Rattle.record_store.specs.{
-  Handles.{ClonesAll, ClonesFirst, ClonesOneMore, FirstAreGone, ReleasesEach, ReleasesFirst, all-are-cloned, all-are-gone, none-is-appended, one-is-appended},
-  Handles.{one-is-refused, one-more-is-cloned, one-more-is-gone, one-more-is-released, release-fails},
+  Handles.{ClonesAll, ClonesFirst, ClonesOneMore, EntriesAreGone, FirstAreGone, ReleasesEach, ReleasesEntries, ReleasesEntry, ReleasesFirst, all-are-cloned},
+  Handles.{all-are-gone, all-entries-are-gone, entry-fails, no-entry-is-gone, none-is-appended, one-is-appended, one-is-refused, one-more-entry-is-gone},
+  Handles.{one-more-is-cloned, one-more-is-gone, one-more-is-released, release-fails},
   Records.{RefersThrough, handles_in, plainly, refers-to-more},
   Stores.{Opens, OpensLast, OpensSaved, Saves, ViewsRecord, is-viewed, last-is-opened, nothing-was-saved, references-arent-cloned},
   declared.store_error.StoreError.StoreError,
@@ -46,6 +47,21 @@ module _ {N S E H K V : Type 0} {tells : Storages S E N H K V} {old new : PagerV
 
   pub all-cloned : {cs : List HandleNumber} → ClonesFirst tells old hs n cs new → n ≡ length hs → ClonesAll tells old hs (Ok cs) new
   all-cloned {cs} so is = all-are-cloned cs new (subst (λ k. ClonesFirst tells old hs k cs new) is so)
+
+module _ {N S E H K V : Type 0} {tells : Storages S E N H K V} {old : PagerView N S E} {n : ℕ} where
+  pub entries-start : n ≡ length (pager_core tells old).list → EntriesAreGone tells old n old
+  entries-start is = subst (λ k. EntriesAreGone tells old k old) (sym is) no-entry-is-gone
+
+module _ {N S E H K V : Type 0} {tells : Storages S E N H K V} {old mid new : PagerView N S E} {n i : ℕ} where
+  pub one-entry-gone : n ≡ i + 1 → EntriesAreGone tells old n mid → ReleasesEntry tells mid i (Ok tt) new → EntriesAreGone tells old i new
+  one-entry-gone is so entry = one-more-entry-is-gone i mid new (subst (λ k. EntriesAreGone tells old k mid) is so) entry
+
+  pub entry-fails-at : {e : Error} → n ≡ i + 1 → EntriesAreGone tells old n mid → ReleasesEntry tells mid i (Err e) new → ReleasesEntries tells old (Err e) new
+  entry-fails-at {e} is so entry = entry-fails i e mid new (subst (λ k. EntriesAreGone tells old k mid) is so) entry
+
+module _ {N S E H K V : Type 0} {tells : Storages S E N H K V} {old new : PagerView N S E} {n : ℕ} where
+  pub all-entries-gone : n ≡ 0 → EntriesAreGone tells old n new → ReleasesEntries tells old (Ok tt) new
+  all-entries-gone is so = all-entries-are-gone new (subst (λ k. EntriesAreGone tells old k new) is so)
 
 module _ {w : Core} {hs : List HandleNumber} {n : ℕ} {rs : List (RawRef 1)} where
   pub one-referred : {h : HandleNumber} {r : RawRef 1} → RefersThrough w hs n rs → slice_get hs n ≡ Some h → Refers w h 0 1 (raw_reference 1 r)

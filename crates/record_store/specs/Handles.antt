@@ -1,8 +1,13 @@
 -- Calls of a pager on several handles, one after another.
 use Rattle.pagable_calls.specs.{Cells.{IsBorn, Releases, Unpins}, PageOuts.Clones}
-use Rattle.pagable_pager.specs.View.{PagerView, Storages, pager_core}
-use Rattle.pagable_pager_spec.specs.{Basics.{Error, HandleNumber}, World.{Core, Values}}
-use Rattle.std.specs.Prelude.{Err, List, Ok, Result, Some, length, slice_get, ℕ, [], ◌++◌, ◌+◌, ◌∷◌, ◌≡◌}
+use Rattle.pagable_pager.specs.View.{Calls, ChangesOnlyTables, PagerView, Storages, pager_core}
+use Rattle.pagable_pager_spec.specs.{
+  Basics.{Error, HandleNumber},
+  Calls.TakeCall,
+  World.{Core, Values},
+  declared.handle_row.Owner.Owner,
+}
+use Rattle.std.specs.Prelude.{Err, List, None, Ok, Option, Result, Some, length, slice_get, ℕ, [], ◌++◌, ◌+◌, ◌∷◌, ◌≡◌}
 
 module _ {N S E H K V : Type 0} (tells : Storages S E N H K V) where
   -- the first n of the handles are released, whatever each release returns; below: each release succeeds
@@ -23,6 +28,28 @@ module _ {N S E H K V : Type 0} (tells : Storages S E N H K V) where
     all-are-gone : (new : PagerView N S E) → FirstAreGone old hs (length hs) new → ReleasesEach old hs (Ok tt) new
     release-fails : (n : ℕ) (h : HandleNumber) (e : Error) (mid new : PagerView N S E) → FirstAreGone old hs n mid
         → slice_get hs n ≡ Some h → Releases tells mid h (Err e) new → ReleasesEach old hs (Err e) new
+
+  -- the entry at this place leaves the list of cells that wait for page-out, if there is one
+  abbrev pub Takes : PagerView N S E → ℕ → Option HandleNumber → PagerView N S E → Type 0
+  Takes old i taken new = Calls ChangesOnlyTables tells old (λ w w'. TakeCall w Owner.Caller i taken w') new
+
+  -- and its handle is released
+  pub data ReleasesEntry (old : PagerView N S E) (i : ℕ) : Result (Unit {0}) Error → PagerView N S E → Type 0 where
+    entry-is-released : (h : HandleNumber) (told : Result (Unit {0}) Error) (mid new : PagerView N S E)
+        → Takes old i (Some h) mid → Releases tells mid h told new → ReleasesEntry old i told new
+    there-is-no-entry : (new : PagerView N S E) → Takes old i None new → ReleasesEntry old i (Ok tt) new
+
+  -- the entries from the last to this place are released, and each release succeeds
+  pub data EntriesAreGone (old : PagerView N S E) : ℕ → PagerView N S E → Type 0 where
+    no-entry-is-gone : EntriesAreGone old (length (pager_core tells old).list) old
+    one-more-entry-is-gone : (i : ℕ) (mid new : PagerView N S E) → EntriesAreGone old (i + 1) mid
+        → ReleasesEntry mid i (Ok tt) new → EntriesAreGone old i new
+
+  -- the entries of the list are released from the last to the first, up to the first release that fails
+  pub data ReleasesEntries (old : PagerView N S E) : Result (Unit {0}) Error → PagerView N S E → Type 0 where
+    all-entries-are-gone : (new : PagerView N S E) → EntriesAreGone old 0 new → ReleasesEntries old (Ok tt) new
+    entry-fails : (i : ℕ) (e : Error) (mid new : PagerView N S E) → EntriesAreGone old (i + 1) mid
+        → ReleasesEntry mid i (Err e) new → ReleasesEntries old (Err e) new
 
   -- the first n of the handles are cloned
   pub data ClonesFirst (old : PagerView N S E) (hs : List HandleNumber) : ℕ → List HandleNumber → PagerView N S E

@@ -5,6 +5,8 @@ ghost use Rattle.record_store.specs.Handles.{
   ClonesAll,
   ClonesOneMore,
   ReleasesEach,
+  ReleasesEntries,
+  ReleasesEntry,
   ReleasesFirst,
   UnpinsNew,
 };
@@ -38,6 +40,35 @@ pub(crate) fn release_each<E: Env<Node: NodeSet<E>>, S: PagableStorage<E>>(
 {
     for handle in handles {
         match pager.release(*handle) {
+            Ok(()) => {}
+            Err(e) => return Err(e),
+        }
+    }
+    Ok(())
+}
+
+// Takes the entry at this place from the list of cells that wait for page-out, and releases its handle.
+fn release_entry<E: Env<Node: NodeSet<E>>, S: PagableStorage<E>>(
+    pager: &mut Pager<E, S>,
+    place: usize,
+) -> Result<(), Error>
+    ensures { ReleasesEntry S.PagableStorage pager.old place result pager.new }
+{
+    match pager.take_pending(place) {
+        Some(handle) => pager.release(handle),
+        None => Ok(()),
+    }
+}
+
+// Takes the entries of the list of cells that wait for page-out, from the last to the first, and
+// releases the handle of each, up to the first release that fails.
+pub(crate) fn release_entries<E: Env<Node: NodeSet<E>>, S: PagableStorage<E>>(
+    pager: &mut Pager<E, S>,
+) -> Result<(), Error>
+    ensures { ReleasesEntries S.PagableStorage pager.old result pager.new }
+{
+    for place in (0..pager.pending()).rev() {
+        match release_entry(pager, place) {
             Ok(()) => {}
             Err(e) => return Err(e),
         }

@@ -12,7 +12,7 @@ use pagable_value_spec::HandleNumber;
 use sqlite::{File, FileStore};
 use std::alloc::Global;
 
-/// The work that a program does in each run, with its records.
+/// The work that a program does in a run, with its records. A run takes the job, so no job runs twice.
 pub trait Job {
     /// The name of the root under which `run` saves its record.
     const ROOT: &'static str;
@@ -29,17 +29,21 @@ pub trait Job {
     /// # Errors
     ///
     /// - the job's own: what it saved before stays saved.
-    fn run<R: RecordCalls>(&self, store: &mut R, last: Option<HandleNumber>) -> Result<()>
-        ensures { OnOk result (succeeds self.now) };
+    fn run<R: RecordCalls>(self, store: &mut R, last: Option<HandleNumber>) -> Result<()>
+        ensures { OnOk result (succeeds self) };
 }
 
-/// Runs a job over the records of a storage. It succeeds only if the job's run did.
+/// Runs a job over the records of a storage, once. It succeeds only if the job's run did.
 ///
 /// # Errors
 ///
 /// - as `RecordStore::open` and `Job::run`.
-pub fn run_over<J: Job, S: Roots<Records> + Drop>(alloc: Global, storage: S, job: &J) -> Result<()>
-    ensures { OnOk result (J.succeeds job.now) }
+pub fn run_over<J: Job + Drop, S: Roots<Records> + Drop>(
+    alloc: Global,
+    storage: S,
+    job: J,
+) -> Result<()>
+    ensures { OnOk result (J.succeeds job) }
 {
     let (mut store, last) = RecordStore::open(alloc, storage, J::ROOT, J::KEPT_RECORDS)?;
     job.run(&mut store, last)
@@ -61,13 +65,13 @@ impl CloseFile for FileBlobs<Records, FileStore<File>> {
 // Runs a job over the records of a storage that was opened at a path, or fails as the opening did, and
 // closes the storage. It takes one of any type, so that the checker needn't follow how a file of blobs is
 // dropped.
-fn run_over_opened<J: Job, S: Roots<Records> + CloseFile + Drop>(
+fn run_over_opened<J: Job + Drop, S: Roots<Records> + CloseFile + Drop>(
     alloc: Global,
     path: &str,
     storage: Result<S, OpenError>,
-    job: &J,
+    job: J,
 ) -> Result<()>
-    ensures { OnOk result (J.succeeds job.now) }
+    ensures { OnOk result (J.succeeds job) }
 {
     let storage = storage.context(format_args!("opening {path}"))?;
     let (mut store, last) = RecordStore::open(alloc, storage, J::ROOT, J::KEPT_RECORDS)?;
@@ -83,8 +87,8 @@ fn run_over_opened<J: Job, S: Roots<Records> + CloseFile + Drop>(
 /// # Errors
 ///
 /// - as `FileBlobs::open` and `close_files`, with the path, and as `run_over`.
-pub fn run_over_file<J: Job>(rt: &HostRuntime, path: &str, job: &J) -> Result<()>
-    ensures { OnOk result (J.succeeds job.now) }
+pub fn run_over_file<J: Job + Drop>(rt: &HostRuntime, path: &str, job: J) -> Result<()>
+    ensures { OnOk result (J.succeeds job) }
 {
     run_over_opened(rt.alloc(), path, FileBlobs::open(rt, path), job)
 }

@@ -9,14 +9,14 @@ ghost use Rattle.pagable_pager_spec.specs.{
   declared.handle_row.Owner.Owner,
 };
 ghost use Rattle.record_store.specs.{
-  Handles.{InsertsOver, ReleasesEach},
+  Handles.{InsertsOver, ReleasesEach, ReleasesEntries},
   Records.{IsRecordOver, plainly, seen_view},
   Stores.{FindsRoot, Opens, OpensLast, ReadsRecord, Saves},
 };
 ghost use Rattle.std.specs.Prelude.{IfOk, IsTrue, OnOk, ◌≡◌};
 
 use crate::calls::{RecordCalls, RecordView, TEXT};
-use crate::handles::release_each;
+use crate::handles::{release_each, release_entries};
 use crate::inserting::insert_over;
 use crate::reading::{end_read, view};
 use crate::store_error::StoreError;
@@ -132,13 +132,11 @@ impl<S: Roots<Records>> RecordCalls for RecordStore<S> {
         told(release_each(&mut self.pager, handles))
     }
 
-    fn release_waiting(&mut self) -> Result<(), StoreError> {
-        for place in (0..self.pager.pending()).rev() {
-            if let Some(handle) = self.pager.take_pending(place) {
-                self.pager.release(handle)?;
-            }
-        }
-        Ok(())
+    fn release_waiting(&mut self) -> Result<(), StoreError>
+        ensures releases { ReleasesEntries S.PagableStorage self.old.pager (plainly result) self.new.pager }
+        ensures budget { self.new.budget ≡ self.old.budget }
+    {
+        told(release_entries(&mut self.pager))
     }
 
     fn key(&mut self, handle: HandleNumber) -> Result<DataKey, StoreError>
