@@ -13,8 +13,8 @@ use pagable_pageout::{Outcome, SlotResult};
 use pagable_value_spec::{Error, Identity, WorkerNumber};
 use std::alloc::Global;
 use std::collections::BTreeSet;
-use std::sync::ledger::{Blank, Book, Ledger};
 use std::sync::Wait;
+use std::sync::ledger::{Blank, Book, Ledger};
 
 /// What a worker's claim finds.
 #[derive(Drop)]
