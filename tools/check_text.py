@@ -55,12 +55,10 @@ FUNCTION = re.compile(r"(?m)^( *)(?:pub(?:\(crate\))? )?(?:const )?fn (\w+)")
 TAKES = re.compile(r"\b(?:try_lock|lock_briefly|lock)\b")
 LOCK = re.compile(r"\b(?:\w+\s*\.\s*)+(\w+)\s*\.\s*lock\(|\block_briefly\(\s*&?(?:\w+\.)+(\w+),")
 # Other names for what takes a lock, and a lock of the pager that isn't called `pager`.
-RENAMED_LOCK = re.compile(
-    r"\b(?:Mutex|MutexGuard|LineLock|LineGuard|lock_briefly)\s+as\s|\btype\s+\w+[^=;]*=[^;]*\b(?:Mutex|LineLock)\s*<"
-)
-PAGERS_LOCK = re.compile(r"\b(?:Mutex|LineLock)\s*<\s*Pager\b")
+RENAMED_LOCK = re.compile(r"\b(?:Mutex|MutexGuard|lock_briefly)\s+as\s|\btype\s+\w+[^=;]*=[^;]*\bMutex\s*<")
+PAGERS_LOCK = re.compile(r"\bMutex\s*<\s*Pager\b")
 CALLED_PAGER = re.compile(r"\bpager\s*:\s*(?:&\s*(?:'\w+\s*)?)?$")
-# How a lock is made and taken: by `line_lock` and `lock_briefly`, which know nothing of what it guards.
+# How a lock is taken: by `lock_briefly`, which knows nothing of what it guards.
 TAKING = "lock.rt"
 # The locks of a slot and of the table are others.
 OTHER_LOCKS = {"state", "slots"}
@@ -83,7 +81,7 @@ GUARD = re.compile(r"(?<![.\w])pager\b(?!\s*\.)")
 # A file that README.md shows, and what it shows.
 SHOWN = re.compile(r"This is\s`((?:tools/)?crates/\S+\.(?:rt|rattle))`[^`]*\n\n```rust\n(.*?)```", re.S)
 PRINTED = re.compile(r"This is\s`(crates/\S+/stdout)`(?:.|\n(?!\n))*\n\n((?: {4}.*\n)+)")
-KEPT = re.compile(r"let (?:mut )?pager = |Lent::(?:new|for_owner)\(&mut \*\*pager\b")
+KEPT = re.compile(r"let (?:mut )?pager = |Lent::(?:new|for_owner)\(&mut \*pager\b")
 
 
 def blank(text, start, end):

@@ -126,9 +126,7 @@ LOCKS = [
     TAKEN.format("inner.pager.lock(rt).pending()"),
     "\nuse crate::lock::lock_briefly as take;\n",
     "\ntype Guarded<T> = Mutex<T>;\n",
-    "\ntype Guarded<T> = LineLock<T>;\n",
     "\nstruct Kept<E, S> {\n    state: Mutex<Pager<E, S>>,\n}\n",
-    "\nstruct Kept<E, S> {\n    state: LineLock<Pager<E, S>>,\n}\n",
 ]
 
 

@@ -1,20 +1,7 @@
 //! Locks that are held for one short call.
 
-use crossbeam_utils::CachePadded;
 use std::hint::spin_loop;
 use std::sync::{Mutex, MutexGuard, Wait};
-
-/// A lock whose word lies on a line of the processor's cache of its own: whoever tries it takes no
-/// line away from the thread that works on the value.
-pub type LineLock<T> = CachePadded<Mutex<CachePadded<T>>>;
-
-/// The guard of a `LineLock`.
-pub type LineGuard<'a, T> = MutexGuard<'a, CachePadded<T>>;
-
-/// Makes a lock of this value.
-pub(crate) fn line_lock<T>(value: T) -> LineLock<T> {
-    CachePadded::new(Mutex::new(CachePadded::new(value)))
-}
 
 /// How often a thread tries a held lock before it sleeps until the lock is free.
 const TRIES: u32 = 16;
@@ -37,7 +24,7 @@ fn pause(count: u32) {
 /// threads sleep waiting for the lock: most calls take less time than a thread needs to fall asleep
 /// and be woken. It waits twice as long after each try, up to `MOST_PAUSES`, since each try takes
 /// the lock's word away from the thread that is about to release the lock.
-pub(crate) fn lock_briefly<'a, R: Wait, T>(mutex: &'a LineLock<T>, rt: &R) -> LineGuard<'a, T> {
+pub(crate) fn lock_briefly<'a, R: Wait, T>(mutex: &'a Mutex<T>, rt: &R) -> MutexGuard<'a, T> {
     let mut pauses = FIRST_PAUSES;
     for _ in 0..TRIES {
         if let Some(guard) = mutex.try_lock() {

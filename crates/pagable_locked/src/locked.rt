@@ -1,7 +1,7 @@
 //! Access to a pager behind a lock, for a caller or a page-out worker. Between any two of its calls
 //! other threads may make theirs, so contracts tell nothing of the pager's state.
 
-use crate::lock::{LineLock, lock_briefly};
+use crate::lock::lock_briefly;
 use either::Either;
 use pagable_codec::{Env, NodeSet};
 use pagable_core::{PagableData, PagableStorage, SessionOf, Setting};
@@ -13,7 +13,7 @@ use pagable_value_spec::{
     WorkerNumber,
 };
 use std::alloc::Global;
-use std::sync::{Arc, Wait};
+use std::sync::{Arc, Mutex, Wait};
 
 /// The access of one thread to a pager behind a lock, for the caller or for a worker of this
 /// thread. Each call takes the lock, makes one call of the pager for `me`, and releases the
@@ -24,7 +24,7 @@ use std::sync::{Arc, Wait};
 #[derive(Drop)]
 pub struct Locked<'a, R: Wait, E: Env<Node: NodeSet<E>>, S: PagableStorage<E>> {
     rt: &'a R,
-    pager: &'a LineLock<Pager<E, S>>,
+    pager: &'a Mutex<Pager<E, S>>,
     setting: &'a Setting<E>,
     me: Owner,
 }
@@ -36,7 +36,7 @@ impl<'a, R: Wait, E: Env<Node: NodeSet<E>>, S: PagableStorage<E>> Locked<'a, R, 
     /// Makes the caller's access to a pager that has this setting.
     pub fn new(
         rt: &'a R,
-        pager: &'a LineLock<Pager<E, S>>,
+        pager: &'a Mutex<Pager<E, S>>,
         setting: &'a Setting<E>,
     ) -> Locked<'a, R, E, S>
         ensures caller { result.me ≡ Owner.Caller }
@@ -69,7 +69,7 @@ impl<'a, R: Wait, E: Env<Node: NodeSet<E>>, S: PagableStorage<E>> Access<E>
 
     fn begin_pin(&mut self, handle: HandleNumber) -> Result<PinStart, Error> {
         let mut pager = lock_briefly(self.pager, self.rt);
-        Lent::for_owner(&mut **pager, self.me)?.begin_pin(handle)
+        Lent::for_owner(&mut *pager, self.me)?.begin_pin(handle)
     }
 
     fn share(&self, handle: HandleNumber) -> Result<Option<Arc<E::Node>>, Error> {
@@ -92,22 +92,22 @@ impl<'a, R: Wait, E: Env<Node: NodeSet<E>>, S: PagableStorage<E>> Access<E>
 
     fn set_data_key(&mut self, handle: HandleNumber, key: DataKey) -> Result<(), Error> {
         let mut pager = lock_briefly(self.pager, self.rt);
-        Lent::for_owner(&mut **pager, self.me)?.set_data_key(handle, key)
+        Lent::for_owner(&mut *pager, self.me)?.set_data_key(handle, key)
     }
 
     fn unpin(&mut self, handle: HandleNumber) -> Result<(), Error> {
         let mut pager = lock_briefly(self.pager, self.rt);
-        Lent::for_owner(&mut **pager, self.me)?.unpin(handle)
+        Lent::for_owner(&mut *pager, self.me)?.unpin(handle)
     }
 
     fn release(&mut self, handle: HandleNumber) -> Result<(), Error> {
         let mut pager = lock_briefly(self.pager, self.rt);
-        Lent::for_owner(&mut **pager, self.me)?.release(handle)
+        Lent::for_owner(&mut *pager, self.me)?.release(handle)
     }
 
     fn load_key(&mut self, key: DataKey) -> Result<LoadNumber, Error> {
         let mut pager = lock_briefly(self.pager, self.rt);
-        Lent::for_owner(&mut **pager, self.me)?.load_key(key)
+        Lent::for_owner(&mut *pager, self.me)?.load_key(key)
     }
 
     fn load_root(
@@ -117,7 +117,7 @@ impl<'a, R: Wait, E: Env<Node: NodeSet<E>>, S: PagableStorage<E>> Access<E>
         key: DataKey,
     ) -> Result<Arc<PagableData>, Error> {
         let mut pager = lock_briefly(self.pager, self.rt);
-        Lent::for_owner(&mut **pager, self.me)?.load_root(alloc, load, key)
+        Lent::for_owner(&mut *pager, self.me)?.load_root(alloc, load, key)
     }
 
     fn load_nested(
@@ -128,7 +128,7 @@ impl<'a, R: Wait, E: Env<Node: NodeSet<E>>, S: PagableStorage<E>> Access<E>
         key: DataKey,
     ) -> Result<Either<ArcRef, Arc<PagableData>>, Error> {
         let mut pager = lock_briefly(self.pager, self.rt);
-        Lent::for_owner(&mut **pager, self.me)?.load_nested(alloc, load, kind, key)
+        Lent::for_owner(&mut *pager, self.me)?.load_nested(alloc, load, kind, key)
     }
 
     fn load_lazy(
@@ -139,7 +139,7 @@ impl<'a, R: Wait, E: Env<Node: NodeSet<E>>, S: PagableStorage<E>> Access<E>
         key: DataKey,
     ) -> Result<ArcRef, Error> {
         let mut pager = lock_briefly(self.pager, self.rt);
-        Lent::for_owner(&mut **pager, self.me)?.load_lazy(alloc, load, kind, key)
+        Lent::for_owner(&mut *pager, self.me)?.load_lazy(alloc, load, kind, key)
     }
 
     fn load_adopt(
@@ -151,7 +151,7 @@ impl<'a, R: Wait, E: Env<Node: NodeSet<E>>, S: PagableStorage<E>> Access<E>
         node: E::Node,
     ) -> Result<ArcRef, (Error, E::Node)> {
         let mut pager = lock_briefly(self.pager, self.rt);
-        match Lent::for_owner(&mut **pager, self.me) {
+        match Lent::for_owner(&mut *pager, self.me) {
             Ok(mut lent) => lent.load_adopt(alloc, load, kind, key, node),
             Err(e) => Err((e, node)),
         }
@@ -164,7 +164,7 @@ impl<'a, R: Wait, E: Env<Node: NodeSet<E>>, S: PagableStorage<E>> Access<E>
         value: E::Node,
     ) -> Result<HandleNumber, (Error, Option<E::Node>)> {
         let mut pager = lock_briefly(self.pager, self.rt);
-        if let Err(e) = Lent::for_owner(&mut **pager, self.me) {
+        if let Err(e) = Lent::for_owner(&mut *pager, self.me) {
             return Err((e, Some(value)));
         }
         pager.load_end_for(self.me, alloc, load, value)
@@ -172,12 +172,12 @@ impl<'a, R: Wait, E: Env<Node: NodeSet<E>>, S: PagableStorage<E>> Access<E>
 
     fn load_take(&mut self, load: LoadNumber, named: &[HandleNumber]) -> Result<(), Error> {
         let mut pager = lock_briefly(self.pager, self.rt);
-        Lent::for_owner(&mut **pager, self.me)?.load_take(load, named)
+        Lent::for_owner(&mut *pager, self.me)?.load_take(load, named)
     }
 
     fn load_drop(&mut self, load: LoadNumber) -> Result<(), Error> {
         let mut pager = lock_briefly(self.pager, self.rt);
-        Lent::for_owner(&mut **pager, self.me)?.load_drop(load)
+        Lent::for_owner(&mut *pager, self.me)?.load_drop(load)
     }
 }
 
@@ -185,22 +185,22 @@ impl<'a, R: Wait, E: Env<Node: NodeSet<E>>, S: PagableStorage<E>> WorkerAccess<E
     for Locked<'a, R, E, S> {
     fn check_reference(&self, reference: ArcRef) -> Result<(), Error> {
         let mut pager = lock_briefly(self.pager, self.rt);
-        Lent::for_owner(&mut **pager, self.me)?.check_reference(reference)
+        Lent::for_owner(&mut *pager, self.me)?.check_reference(reference)
     }
 
     fn pin_or_load_reference(&mut self, reference: ArcRef) -> Result<PinnedOrLoading, Error> {
         let mut pager = lock_briefly(self.pager, self.rt);
-        Lent::for_owner(&mut **pager, self.me)?.pin_or_load_reference(reference)
+        Lent::for_owner(&mut *pager, self.me)?.pin_or_load_reference(reference)
     }
 
     fn pin_or_load_value(&mut self, reference: ArcRef) -> Result<TakenValue<E::Node>, Error> {
         let mut pager = lock_briefly(self.pager, self.rt);
-        Lent::for_owner(&mut **pager, self.me)?.pin_or_load_value(reference)
+        Lent::for_owner(&mut *pager, self.me)?.pin_or_load_value(reference)
     }
 
     fn set_key_and_release(&mut self, at: WorkerNode, key: DataKey) -> Result<(), Error> {
         let mut pager = lock_briefly(self.pager, self.rt);
-        Lent::for_owner(&mut **pager, self.me)?.set_key_and_release(at, key)
+        Lent::for_owner(&mut *pager, self.me)?.set_key_and_release(at, key)
     }
 
     fn store_node(
@@ -221,36 +221,36 @@ impl<'a, R: Wait, E: Env<Node: NodeSet<E>>, S: PagableStorage<E>> WorkerAccess<E
         at: WorkerNode,
     ) -> Result<DataKey, Error> {
         let mut pager = lock_briefly(self.pager, self.rt);
-        Lent::for_owner(&mut **pager, self.me)?.store_node_keyed(alloc, key, blob, at)
+        Lent::for_owner(&mut *pager, self.me)?.store_node_keyed(alloc, key, blob, at)
     }
 
     fn release_worker_node(&mut self, worker: WorkerNumber, node: NodeNumber) {
         let mut pager = lock_briefly(self.pager, self.rt);
-        Lent::new(&mut **pager).release_worker_node(worker, node);
+        Lent::new(&mut *pager).release_worker_node(worker, node);
     }
 
     fn schedule_for_paging(&mut self, handle: HandleNumber) -> Result<(), Error> {
         let mut pager = lock_briefly(self.pager, self.rt);
-        Lent::for_owner(&mut **pager, self.me)?.schedule_for_paging(handle)
+        Lent::for_owner(&mut *pager, self.me)?.schedule_for_paging(handle)
     }
 
     fn worker_begin(&mut self) -> Result<WorkerNumber, Error> {
         let mut pager = lock_briefly(self.pager, self.rt);
-        let worker = Lent::new(&mut **pager).worker_begin()?;
+        let worker = Lent::new(&mut *pager).worker_begin()?;
         self.me = Owner::Worker(worker);
         Ok(worker)
     }
 
     fn worker_listed(&mut self, place: usize) -> Result<(WorkerNumber, ArcRef), Error> {
         let mut pager = lock_briefly(self.pager, self.rt);
-        let (worker, reference) = Lent::new(&mut **pager).worker_listed(place)?;
+        let (worker, reference) = Lent::new(&mut *pager).worker_listed(place)?;
         self.me = Owner::Worker(worker);
         Ok((worker, reference))
     }
 
     fn worker_end(&mut self, worker: WorkerNumber) {
         let mut pager = lock_briefly(self.pager, self.rt);
-        Lent::new(&mut **pager).worker_end(worker);
+        Lent::new(&mut *pager).worker_end(worker);
         self.me = Owner::Caller;
     }
 
@@ -260,12 +260,12 @@ impl<'a, R: Wait, E: Env<Node: NodeSet<E>>, S: PagableStorage<E>> WorkerAccess<E
 
     fn entry_key(&self, place: usize) -> Option<OptionalDataKey> {
         let mut pager = lock_briefly(self.pager, self.rt);
-        Lent::new(&mut **pager).entry_key(place)
+        Lent::new(&mut *pager).entry_key(place)
     }
 
     fn take_pending(&mut self, place: usize) -> Option<HandleNumber> {
         let mut pager = lock_briefly(self.pager, self.rt);
-        match Lent::for_owner(&mut **pager, self.me) {
+        match Lent::for_owner(&mut *pager, self.me) {
             Ok(mut lent) => lent.take_pending(place),
             Err(_) => None,
         }
@@ -273,7 +273,7 @@ impl<'a, R: Wait, E: Env<Node: NodeSet<E>>, S: PagableStorage<E>> WorkerAccess<E
 
     fn release_if_keyed(&mut self, place: usize) -> Option<bool> {
         let mut pager = lock_briefly(self.pager, self.rt);
-        match Lent::for_owner(&mut **pager, self.me) {
+        match Lent::for_owner(&mut *pager, self.me) {
             Ok(mut lent) => lent.release_if_keyed(place),
             Err(_) => None,
         }

@@ -17,7 +17,6 @@ ghost use Rattle.pagable_locked.specs.Refusals.{
 ghost use Rattle.pagable_value_spec.specs.{Blob.key_of, Outcomes.IsOutOfMemory};
 ghost use Rattle.std.specs.{Arc.arc_value, Prelude.{IfErr, IfOk, IfSome, Ok, ◌<◌, ◌≡◌, ◌≤◌}};
 
-use crate::lock::{LineLock, line_lock};
 use crate::locked::Locked;
 use crate::share::{ClaimShare, WorkerShare};
 use crate::shared_claims::SharedClaims;
@@ -31,11 +30,11 @@ use pagable_pager::Pager;
 use pagable_value_spec::{ArcRef, DataKey, Error, HandleNumber, Kind};
 use std::alloc::Global;
 use std::sync::ledger::Ledger;
-use std::sync::{Arc, Wait};
+use std::sync::{Arc, Mutex, Wait};
 
 #[derive(Drop)]
 pub(crate) struct Inner<E: Env<Node: NodeSet<E>>, S: PagableStorage<E>> {
-    pub(crate) pager: LineLock<Pager<E, S>>,
+    pub(crate) pager: Mutex<Pager<E, S>>,
     setting: Arc<Setting<E>>,
 }
 
@@ -61,7 +60,7 @@ impl<E: Env<Node: NodeSet<E>>, S: PagableStorage<E>> PagableStorageHandle<E, S> 
     {
         let setting = Arc::new(alloc, Setting::new(alloc, env))?;
         let pager = Pager::with_shared_setting(alloc, storage, Arc::try_clone(&setting)?);
-        let pager = line_lock(pager);
+        let pager = Mutex::new(pager);
         let inner = Arc::new(alloc, Inner { pager, setting })?;
         Ok(PagableStorageHandle { inner })
     }

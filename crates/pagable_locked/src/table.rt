@@ -4,7 +4,7 @@
 ghost use Rattle.pagable_locked.specs.Slots.{IsClaimFoundOf, claims_made};
 ghost use Rattle.std.specs.{BTreeSet.btree_set_len, Prelude.{IfOk, OnErr, if◌then◌else◌, ◌+◌, ◌<◌, ◌≡◌}};
 
-use crate::lock::{LineGuard, LineLock, line_lock, lock_briefly};
+use crate::lock::lock_briefly;
 use crate::share::{ClaimShare, WorkerShare};
 use crate::slot::ArcSerSlot;
 use indexmap::IndexMap;
@@ -13,8 +13,8 @@ use pagable_pageout::{Outcome, SlotResult};
 use pagable_value_spec::{Error, Identity, WorkerNumber};
 use std::alloc::Global;
 use std::collections::BTreeSet;
-use std::sync::Wait;
 use std::sync::ledger::{Blank, Book, Ledger};
+use std::sync::{Mutex, MutexGuard, Wait};
 
 /// What a worker's claim finds.
 #[derive(Drop)]
@@ -184,11 +184,11 @@ impl<E: Env<Node: NodeSet<E>>, L: Ledger> Slots<E, L> {
 /// `ClaimShare` of its own; merged into one, the shares count all claims.
 #[derive(Drop)]
 pub struct SlotTable<E: Env<Node: NodeSet<E>>, L: Ledger> {
-    slots: LineLock<Slots<E, L>>,
+    slots: Mutex<Slots<E, L>>,
 }
 
 /// A guard that holds the table's lock as long as it lives. It gives no access to the table.
-pub type TableGuard<'a, E, L> = LineGuard<'a, Slots<E, L>>;
+pub type TableGuard<'a, E, L> = MutexGuard<'a, Slots<E, L>>;
 
 impl<E: Env<Node: NodeSet<E>>, L: Ledger> SlotTable<E, L> {
     /// Makes a table without slots, and its one whole share, which counts no claims. It takes no
@@ -202,7 +202,7 @@ impl<E: Env<Node: NodeSet<E>>, L: Ledger> SlotTable<E, L> {
         ensures none { result.1.share.amount ≡ 0 }
     {
         let (slots, share) = Slots::new(alloc, parts);
-        let slots = line_lock(slots);
+        let slots = Mutex::new(slots);
         (SlotTable { slots }, share)
     }
 
