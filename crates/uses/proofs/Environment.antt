@@ -8,7 +8,7 @@ use Rattle.pagable_pager_spec.specs.{
   World.{Reading, Seen, Todo, Values, Written},
   declared.{events.{Action.Action, LoadAnswer.LoadAnswer, WorkerAnswer.WorkerAnswer}, handle_row.Owner.Owner},
 }
-use Rattle.pagable_theorems.specs.CallerLaws.{Operation, Operations, calls, goes-on, is-done, pages-item, pages-list, pins, reads-key}
+use Rattle.pagable_theorems.specs.CallerLaws.{Operation, Operations, calls, goes-on, is-done, keeps-nodes, pages-item, pages-list, pins, reads-key}
 use Rattle.std.proofs.Common.{List, Result, refl, ℕ, ◌∙◌, ◌≡◌}
 
 load-keeps : {N E : Type 0} {v : Values N} {me : Owner} {reading : Reading} {s s' : PagerState N E} {answer : LoadAnswer N} → LoadRun v me reading s answer s'
@@ -56,6 +56,7 @@ module _ {N E B W : Type 0} {m : Seen N B W} where
   operation-keeps (reads-key key t r s s' run) = read-keeps run
   operation-keeps (pages-item item answer s s' new run) = item-keeps run
   operation-keeps (pages-list i answer s s' run) = list-keeps run
+  operation-keeps (keeps-nodes s s' keeps) = keeps.moves.environment
 
   pub all-keep : {s s' : PagerState N E} → Operations m s s' → s'.environment ≡ s.environment
   all-keep (is-done s) = refl
