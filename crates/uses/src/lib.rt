@@ -71,8 +71,8 @@ pub fn read_published<E: Env<Node: NodeSet<E>>, S: PagableStorage<E>, T: OfNode<
 }
 
 /// Publishes a blob under a name: stores the blob, lets the name stand for the key of its content,
-/// and flushes, so that whoever opens the storage later, after a crash too, finds the blob by the
-/// name. Ok means, unless the storage took a wrong answer of a layer below as true: the name durably
+/// and flushes, which makes both durable. What an open finds after a crash, this contract doesn't
+/// say. Ok means, unless the storage took a wrong answer of a layer below as true: the name durably
 /// stands for the key that is returned (`stands`), the blob is durably stored under it (`stored`),
 /// each other name durably stands for what it stood for (`others`), and `root` of the name returns
 /// the key until the name is set again (`found`). An error means nothing of this: the blob may be
