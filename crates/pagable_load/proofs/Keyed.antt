@@ -3,8 +3,9 @@
 use Rattle.pagable_load.proofs.{Batches.stopped_at, LoadSteps.{acts_map, hands_over}}
 use Rattle.pagable_load.specs.{
   Decoding.IsReadAs,
-  Keyed.{Came, EachGot, FramesKeyed, HasRead, HoldsKeyed, IsFrameKeyed, IsKeyed, LeavesAreRight, StaysKeyed, TreesAreRight, came-read, more-keyed},
-  Keyed.{no-frames, root-keyed},
+  Keyed.{AfterKeyed, Came, EachGot, FramesKeyed, HoldsKeyed, IsEndKeyed, IsFrameKeyed, IsKeyed, IsShareKeyed, LeavesAreRight, StaysKeyed, TreesAreRight},
+  Keyed.{came-read, more-keyed, no-frames, root-keyed},
+  declared.reading.LoadOutcome.LoadOutcome,
 }
 use Rattle.pagable_pager_spec.specs.{
   Basics.{Among, Blob, Error, Kind, Tree, Types, is_eager, type_of},
@@ -12,7 +13,6 @@ use Rattle.pagable_pager_spec.specs.{
   Pager.{FrameFits, ReadsNodeTree, ValueStands},
   Runs.ReadsAsValue,
   World.{Frame, Reading, Values},
-  declared.events.LoadAnswer.LoadAnswer,
 }
 use Rattle.pagable_theorems.proofs.{Decoding.{decodes, read_stands}, LoadProgress.{asked, pushed}, Trees.one_tree}
 use Rattle.pagable_value_spec.specs.{
@@ -20,8 +20,9 @@ use Rattle.pagable_value_spec.specs.{
   Trees.ReadsAs,
   declared.numbers.{ArcRef.ArcRef, HandleNumber.HandleNumber},
 }
+use Rattle.std.specs.{Arc.arc_value, Global.Global, Prelude.{IfSome, IsSome}, declared.sync.Arc.Arc}
 use Rattle.std.proofs.{
-  Common.{Bool, List, None, Option, Some, ap, arith, false, if◌then◌else◌, inl, inr, length, refl, slice_get, subst, sym, true, ℕ, [], ◌++◌, ◌∙◌, ◌∷◌, ◌≡◌, ◌⊎◌},
+  Common.{Bool, Err, List, None, Ok, Option, Result, Some, ap, arith, false, if◌then◌else◌, inl, inr, length, refl, slice_get, subst, sym, true, ℕ, [], ◌++◌, ◌∙◌, ◌∷◌, ◌≡◌, ◌⊎◌},
   lemmas.{List.{length-append, nil_from_length}, Option.slice_get_within},
 }
 
@@ -119,12 +120,15 @@ module _ {N : Type 0} (v : Values N) (key t : ℕ) where
               (subst (FramesKeyed v key t) was h));
         }
 
-    pub read_stays : (reading : Reading) (x : N) → reading.frames ≡ old → ReadsRoot v reading x → StaysKeyed v key t old (Some (LoadAnswer.Read x)) new
+    pub read_stays : (reading : Reading) (x : N) → reading.frames ≡ old → ReadsRoot v reading x → StaysKeyed v key t old (Some (LoadOutcome.Read x)) new
     read_stays reading x frames root = record { follows = λ h. end_keyed root.root x root.decoded (subst (FramesKeyed v key t) (sym frames ∙ root.frames) h) }
 
-    pub pin_stays : (reading : Reading) (x : N) (k : HandleNumber) → reading.frames ≡ old → ReadsRoot v reading x
-        → StaysKeyed v key t old (Some (LoadAnswer.Pinned k)) new
-    pin_stays reading x k frames root = record {
+    pub pin_stays : (reading : Reading) (x : N) (k : HandleNumber) (read : Option (Arc N Global)) → reading.frames ≡ old → ReadsRoot v reading x
+        → IfSome read (λ a. arc_value a ≡ x) → StaysKeyed v key t old (Some (LoadOutcome.Pinned k read)) new
+    pin_stays reading x k (Some a) frames root is = record {
+      follows = λ h. subst (IsKeyed v key t) (sym is) (end_keyed root.root x root.decoded (subst (FramesKeyed v key t) (sym frames ∙ root.frames) h));
+    }
+    pin_stays reading x k None frames root is = record {
       follows = λ h. record { x = x; keyed = end_keyed root.root x root.decoded (subst (FramesKeyed v key t) (sym frames ∙ root.frames) h) };
     }
 
@@ -132,7 +136,7 @@ module _ {N : Type 0} (v : Values N) (key t : ℕ) where
   pub none_stays : {old : List Frame} → StaysKeyed v key t old None old
   none_stays = record { follows = λ h. h }
 
-  pub refused_stays : {old new : List Frame} {e : Error} → StaysKeyed v key t old (Some (LoadAnswer.Refused e)) new
+  pub refused_stays : {old new : List Frame} {e : Error} → StaysKeyed v key t old (Some (LoadOutcome.Refused e)) new
   refused_stays = record { follows = λ h. tt }
 
 pub ruleset staying = (none_stays, refused_stays)
@@ -153,7 +157,7 @@ lazy_kind types f fs frames kind k is need r of =
 
 module _ {N E : Type 0} (says : E → Values N) {e e' : E} {key key' t t' : ℕ} (same : e' ≡ e) (of_key : key' ≡ key) (of_type : t' ≡ t) where
   -- one step after another
-  pub then_stays : {old mid new : List Frame} {answer : Option (LoadAnswer N)} → StaysKeyed (says e) key t old None mid
+  pub then_stays : {old mid new : List Frame} {answer : Option (LoadOutcome N)} → StaysKeyed (says e) key t old None mid
       → StaysKeyed (says e') key' t' mid answer new → StaysKeyed (says e) key t old answer new
   then_stays {mid = mid} {new = new} {answer = answer} one two =
       let moved : StaysKeyed (says e) key t mid answer new = subst (λ x. StaysKeyed (says x) key t mid answer new) same
@@ -161,21 +165,38 @@ module _ {N E : Type 0} (says : E → Values N) {e e' : E} {key key' t t' : ℕ}
       record { follows = λ h. moved.follows (one.follows h) }
 
   -- a load that begins has read nothing
-  pub from_nothing : {frames new : List Frame} {x : N} → frames ≡ [] → StaysKeyed (says e') key' t' frames (Some (LoadAnswer.Read x)) new
-      → IsKeyed (says e) key t x
-  from_nothing {x = x} none h =
-      let k : IsKeyed (says e') key' t' x = h.follows (subst (FramesKeyed (says e') key' t') (sym none) no-frames) in
-      subst (λ y. IsKeyed (says y) key t x) same (subst (λ y. IsKeyed (says e') y t x) of_key (subst (λ y. IsKeyed (says e') key' y x) of_type k))
+  pub from_nothing : {frames new : List Frame} {outcome : Option (LoadOutcome N)} → frames ≡ [] → StaysKeyed (says e') key' t' frames outcome new
+      → AfterKeyed (says e) key t outcome new
+  from_nothing {new = new} {outcome = outcome} none h =
+      let k : AfterKeyed (says e') key' t' outcome new = h.follows (subst (FramesKeyed (says e') key' t') (sym none) no-frames) in
+      subst (λ y. AfterKeyed (says y) key t outcome new) same
+      (subst (λ y. AfterKeyed (says e') y t outcome new) of_key (subst (λ y. AfterKeyed (says e') key' y outcome new) of_type k))
 
 -- a load of a cell, from its root's blob on
-pub from_root : {N : Type 0} {v : Values N} {key key' t t' : ℕ} {frames new : List Frame} {k : HandleNumber} (blob : Blob) → key' ≡ key → t' ≡ t
-    → frames ≡ root_frame key t blob ∷ [] → key_of v.hash blob ≡ key
-    → StaysKeyed v key' t' frames (Some (LoadAnswer.Pinned k)) new → HasRead v key t
-from_root {N} {v} {key} {key'} {t} {t'} {frames} {new} {k} blob of_key of_type is named stays =
-    let moved : StaysKeyed v key t frames (Some (LoadAnswer.Pinned k)) new =
-    subst (λ q. StaysKeyed v q t frames (Some (LoadAnswer.Pinned k)) new) of_key
-    (subst (λ u. StaysKeyed v key' u frames (Some (LoadAnswer.Pinned k)) new) of_type stays) in
+pub from_root : {N : Type 0} {v : Values N} {key key' t t' : ℕ} {frames new : List Frame} {outcome : Option (LoadOutcome N)} (blob : Blob) → key' ≡ key
+    → t' ≡ t → frames ≡ root_frame key t blob ∷ [] → key_of v.hash blob ≡ key → StaysKeyed v key' t' frames outcome new → AfterKeyed v key t outcome new
+from_root {N} {v} {key} {key'} {t} {t'} {frames} {new} {outcome} blob of_key of_type is named stays =
+    let moved : StaysKeyed v key t frames outcome new =
+    subst (λ q. StaysKeyed v q t frames outcome new) of_key (subst (λ u. StaysKeyed v key' u frames outcome new) of_type stays) in
     moved.follows (root_comes v key t blob is named)
+
+-- the value's own type is the one as which it was read
+pub own_type : {N : Type 0} {v : Values N} {key t : ℕ} {x : N} → IsKeyed v key t x → IsKeyed v key (v.node_type x) x
+own_type {v = v} {key = key} {x = x} read = subst (λ u. IsKeyed v key u x) (sym read.read.typed) read
+
+-- a pin that names a key shares the value that its load has read under it
+pub share_keyed : {N : Type 0} (v : Values N) (key t : ℕ) (read : Option (Arc N Global)) (read_from : Option ℕ) (shared : Result (Option (Arc N Global)) Error)
+    → IsEndKeyed v key t read → IfSome read_from (λ from. (from ≡ key) × (shared ≡ Ok read) × IsSome read) → IsShareKeyed v read_from shared
+share_keyed v key t read None (Ok (Some x)) ended is = tt
+share_keyed v key t read None (Ok None) ended is = tt
+share_keyed v key t read None (Err e) ended is = tt
+share_keyed v key t read (Some from) (Ok None) ended is = tt
+share_keyed v key t read (Some from) (Err e) ended is = tt
+share_keyed v key t None (Some from) (Ok (Some y)) ended (at, same, some) = let e : false ≡ true = some in absurd (cc)
+share_keyed v key t (Some x) (Some from) (Ok (Some y)) ended (at, same, some) =
+    let one : y ≡ x = cc in
+    subst (λ k. IsKeyed v k (v.node_type (arc_value y)) (arc_value y)) (sym at)
+        (subst (λ z. IsKeyed v key (v.node_type (arc_value z)) (arc_value z)) (sym one) (own_type ended))
 
 -- the value that was taken out of a node
 pub held_keyed : {N T : Type 0} {v : Values N} {held : N → Option T} {key t : ℕ} {x : N} {a : T} → IsKeyed v key t x → Some a ≡ held x

@@ -7,7 +7,8 @@ use Rattle.pagable_load.specs.{
   Frames.{IsLoadOf, frame_of, frames_of, frames_onto, reading_of},
   LoadSteps.{Drops, Met, TriesStep},
   ResolvedReferences.answer_at,
-  declared.reading.{Frame.Frame as Held, Need.Need, Reading.Reading as Own},
+  Outcomes.{answer_of as answers},
+  declared.reading.{Frame.Frame as Held, LoadOutcome.LoadOutcome, Need.Need, Reading.Reading as Own},
 }
 use Rattle.pagable_pager_spec.specs.{
   Access.{IfBothKnown, IfReads, MakesCall, ReadingStep},
@@ -38,7 +39,7 @@ use Rattle.std.proofs.{
   Common.{◌+◌, ◌<◌, ◌∙◌, ◌∷◌, ◌≡◌, ◌≤◌},
   lemmas.{Bool.Decides.nat_tests, Grind.common_steps, List.nil_from_length},
 }
-use Rattle.std.specs.{Arc.arc_value, Prelude.IsTrue}
+use Rattle.std.specs.{Arc.arc_value, Global.Global, Option.option_map, Prelude.IsTrue, declared.sync.Arc.Arc}
 unfoldable use Rattle.pagable_pager_spec.specs.{Kinds.find_row, Refusals.references_fault}
 use Rattle.pagable_core.specs.Context as context
 
@@ -247,8 +248,8 @@ module _ {N : Type 0} (E : Type 0) (v : Values N) (me : Owner) (own : Own) where
   came-held x {s = s} good pinned m whole = comes_as (λ n y came. subst (HoldsItsNodes v s) (sym came.0)
       (pinned_law E v s (Owner.Load own.load) x whole good pinned)) m
 
-  goes : {s t : PagerState N E} {answer : Option (LoadAnswer N)} {frames : List Frame} → (IsLoadOf s.core me own → ReadingStep v me reading s answer frames t)
-      → TriesStep v me own s (Ok answer) frames t
+  goes : {s t : PagerState N E} {outcome : Option (LoadOutcome N)} {frames : List Frame}
+      → (IsLoadOf s.core me own → ReadingStep v me reading s (option_map answers outcome) frames t) → TriesStep v me own s (Ok outcome) frames t
   goes f = record { does = f; meets = λ is. tt }
 
   pub fails : {s t : PagerState N E} {e : Error} {frames : List Frame} → (IsLoadOf s.core me own → Met v me reading s e t)
@@ -380,10 +381,10 @@ module _ {N : Type 0} (E : Type 0) (v : Values N) (me : Owner) (own : Own) where
     comes : {s t : PagerState N E} → Moves (λ n y. (y ≡ x) × IsCellOf s.core own.load n) s t → Moves (ReadingBrings v s.core reading) s t
     comes {s} m = comes_as (λ n y came. inr (subst (ReadsRoot v reading) (sym came.0) root, came.1)) m
 
-    pub end_pins : (k : HandleNumber) (frames : List Frame) → frames ≡ [] → (s t : PagerState N E) → HoldsPinned v s x
+    pub end_pins : (k : HandleNumber) (read : Option (Arc N Global)) (frames : List Frame) → frames ≡ [] → (s t : PagerState N E) → HoldsPinned v s x
         → MakesCallBringing v (λ w'. EndCall s.core me own.load x (v.node_type x) (v.references x) (Ok k) w') (λ n y. (y ≡ x) × IsCellOf s.core own.load n) s t
-        → TriesStep v me own s (Ok (Some (LoadAnswer.Pinned k))) frames t
-    end_pins k frames none s t pinned c =
+        → TriesStep v me own s (Ok (Some (LoadOutcome.Pinned k read))) frames t
+    end_pins k read frames none s t pinned c =
         goes (λ o. record {
           does = record { does = (record { x = x; reads_root = root; of_cell_load = for_cell s.core o; ended = c.step }, none) };
           moves = comes c.moves;
@@ -395,7 +396,7 @@ module _ {N : Type 0} (E : Type 0) (v : Values N) (me : Owner) (own : Own) where
     pub end_closed : (e : Error) (frames : List Frame) → frames ≡ [] → (s t : PagerState N E) → HoldsPinned v s x
         → MakesCallBringing v (λ w'. EndCall s.core me own.load x (v.node_type x) (v.references x) (Err (e, None)) w')
         (λ n y. (y ≡ x) × IsCellOf s.core own.load n) s t
-        → TriesStep v me own s (Ok (Some (LoadAnswer.Refused e))) frames t
+        → TriesStep v me own s (Ok (Some (LoadOutcome.Refused e))) frames t
     end_closed e frames none s t pinned c =
         goes (λ o. record {
           does = record { does = (inr (record { x = x; reads_root = root; ended = c.step }), none) };
@@ -440,7 +441,7 @@ module _ {N : Type 0} (E : Type 0) (v : Values N) (me : Owner) (own : Own) where
     }
 
     pub hands_over : (frames : List Frame) → frames ≡ [] → (s t : PagerState N E) → HoldsPinned v s x
-        → MakesCall v (λ w'. HandOverCall s.core me own.load named (Ok tt) w') s t → TriesStep v me own s (Ok (Some (LoadAnswer.Read x))) frames t
+        → MakesCall v (λ w'. HandOverCall s.core me own.load named (Ok tt) w') s t → TriesStep v me own s (Ok (Some (LoadOutcome.Read x))) frames t
     hands_over frames none s t pinned c = goes (λ o. went c (handed-holds c pinned) (
       record { reads_root = root; of_key_load = for_key s.core o; handed = subst (λ hs. HandOverCall s.core me own.load hs (Ok tt) t.core) is c.step },
       none,
@@ -463,7 +464,7 @@ module _ {N : Type 0} (E : Type 0) (v : Values N) (me : Owner) (own : Own) where
 
   pub gives_up : (e : Error) (l : LoadNumber) (frames none : List Frame) → l ≡ own.load → none ≡ [] → (s mid t : PagerState N E)
       → TriesStep v me own s (Err e) frames mid → Drops v me l mid t
-      → TriesStep v me own s (Ok (Some (LoadAnswer.Refused e))) none t
+      → TriesStep v me own s (Ok (Some (LoadOutcome.Refused e))) none t
   gives_up e l frames none at is s mid t tried dropped = goes (λ o.
       let d = subst (λ n. Drops v me n mid t) at dropped in
       let m = tried.meets o in

@@ -3,8 +3,9 @@ use Rattle.pagable_load.proofs.LoadSteps.{acts_then}
 use Rattle.pagable_load.specs.{
   Frames.{IsLoadOf, frames_of, reading_of},
   LoadSteps.{HasGone, IsSameLoad, RunsLoad, RunsLoadOrPart, TriesStep},
+  Outcomes.answer_of,
   PinStart.{PinsWithLoad, SharesPinned, StartsPin, TakesBack, Unpins},
-  declared.{access.PinStart.PinStart, reading.Reading.Reading as Own},
+  declared.{access.PinStart.PinStart, reading.{LoadOutcome.LoadOutcome, Reading.Reading as Own}},
 }
 use Rattle.pagable_pager_spec.specs.{
   Access.{IsUnpinnedBack, LoadRun, MakesCall, PinRun, PinsOver, ReadingStep, ReadsOver, load-ends, load-fails, load-goes-on, load-is-refused, load-pins},
@@ -22,6 +23,7 @@ use Rattle.pagable_pager_spec.specs.{
 use Rattle.pagable_theorems.proofs.{Decoding.among-right, HandlesKept.{NotValues, end-call, low-whole}, StepBounds.found}
 use Rattle.pagable_theorems.specs.TreeSteps.{HasPin}
 use Rattle.pagable_value_spec.specs.declared.{error.Error.Error, numbers.{HandleNumber.HandleNumber, LoadNumber.LoadNumber}}
+use Rattle.std.specs.{Global.Global, declared.sync.Arc.Arc}
 use Rattle.std.proofs.{
   Common.{Bool, Err, List, None, Ok, Option, Result, Some, ap, arith, false, inr, refl, rules, subst, sym, true, ℕ, [], ◌+◌, ◌∙◌, ◌∷◌, ◌≡◌},
   lemmas.{Bool.Decides.nat_tests, Grind.common_steps},
@@ -50,10 +52,10 @@ module _ {N E : Type 0} (v : Values N) (me : Owner) where
         still : IsLoadOf s.core me own → IsLoadOf t.core me next
         still o = grind (arith, nat_tests, goes_open)
 
-    pub ends_so : (answer : LoadAnswer N) (frames : List Frame) → TriesStep v me now m (Ok (Some answer)) frames t → RunsLoad v me own s answer t
+    pub ends_so : (answer : LoadOutcome N) (frames : List Frame) → TriesStep v me now m (Ok (Some answer)) frames t → RunsLoad v me own s answer t
     ends_so answer frames step = first_of (grind (arith, common_steps, nat_tests), grind (arith, nat_tests, load-ends), search (rules, load-ends))
 
-    pub goes_or_ends : (next : Own) (frames : List Frame) (answer : Option (LoadAnswer N)) → IsSameLoad now next (one_more now.steps) → frames
+    pub goes_or_ends : (next : Own) (frames : List Frame) (answer : Option (LoadOutcome N)) → IsSameLoad now next (one_more now.steps) → frames
         ≡ frames_of next.top next.below.items
         → TriesStep v me now m (Ok answer) frames t → RunsLoadOrPart v me own next s answer t
     goes_or_ends next frames None is_same is step = went_on next frames is_same is step
@@ -73,9 +75,10 @@ begun_is w w' l key root me next a = first_of (grind (arith, common_steps, nat_t
 
 module _ {N E : Type 0} (v : Values N) (me : Owner) (mine : me ≡ Owner.Caller) where
   module _ (own : Own) (l : LoadNumber) (key t : ℕ) (is : reading_of own ≡ fresh l t) (under : own.key ≡ key) where
-    runs_on : {s t' : PagerState N E} {answer : LoadAnswer N} → IsLoadOf s.core me own → RunsLoad v me own s answer t'
-        → LoadRun v Owner.Caller (fresh l t) s answer t'
-    runs_on {s} {t'} {answer} o r = subst (λ m. LoadRun v m (fresh l t) s answer t') mine (subst (λ x. LoadRun v me x s answer t') is (r.run o))
+    runs_on : {s t' : PagerState N E} {outcome : LoadOutcome N} → IsLoadOf s.core me own → RunsLoad v me own s outcome t'
+        → LoadRun v Owner.Caller (fresh l t) s (answer_of outcome) t'
+    runs_on {s} {t'} {outcome} o r =
+        subst (λ m. LoadRun v m (fresh l t) s (answer_of outcome) t') mine (subst (λ x. LoadRun v me x s (answer_of outcome) t') is (r.run o))
 
     module _ (h : HandleNumber) (cell : own.for_cell ≡ true) (s mid : PagerState N E)
         (c : MakesCall v (λ w'. StartsPin s.core me h (Ok (PinStart.Load l key t)) w') s mid) where
@@ -85,8 +88,9 @@ module _ {N E : Type 0} (v : Values N) (me : Owner) (mine : me ≡ Owner.Caller)
       calls : MakesCall v (λ w'. BeginCall s.core Owner.Caller h (Ok (Beginning.Load l key)) w') s mid
       calls = record { step = subst (λ m. BeginCall s.core m h (Ok (Beginning.Load l key)) mid.core) mine c.step.starts.0; moves = c.moves; whole = c.whole }
 
-      pub load_pinned : (k : HandleNumber) (s' : PagerState N E) → RunsLoad v me own mid (LoadAnswer.Pinned k) s' → PinsWithLoad v s h (Ok (k, true)) s'
-      load_pinned k s' r = record {
+      pub load_pinned : (k : HandleNumber) (read : Option (Arc N Global)) (s' : PagerState N E) → RunsLoad v me own mid (LoadOutcome.Pinned k read) s'
+          → PinsWithLoad v s h (Ok (k, true)) s'
+      load_pinned k read s' r = record {
         pinned = (
           load-pins k (fresh l t) mid s' (record { key = key; begins = calls; is = c.step.starts.2 }) (runs_on open_load r),
           sym c.step.starts.1,
@@ -94,7 +98,7 @@ module _ {N E : Type 0} (v : Values N) (me : Owner) (mine : me ≡ Owner.Caller)
         refused = tt;
       }
 
-      pub load_failed : (e : Error) (s' : PagerState N E) → RunsLoad v me own mid (LoadAnswer.Refused e) s' → PinsWithLoad v s h (Err e) s'
+      pub load_failed : (e : Error) (s' : PagerState N E) → RunsLoad v me own mid (LoadOutcome.Refused e) s' → PinsWithLoad v s h (Err e) s'
       load_failed e s' r = record {
         pinned = tt;
         refused = load-fails e (fresh l t) mid s' (record { key = key; begins = calls; is = c.step.starts.2 })
@@ -116,10 +120,10 @@ module _ {N E : Type 0} (v : Values N) (me : Owner) (mine : me ≡ Owner.Caller)
               sort = sym sort;
             }
 
-        pub key_read : (x : N) (s' : PagerState N E) → RunsLoad v me own mid (LoadAnswer.Read x) s' → ReadsOver v s key t (Ok x) s'
+        pub key_read : (x : N) (s' : PagerState N E) → RunsLoad v me own mid (LoadOutcome.Read x) s' → ReadsOver v s key t (Ok x) s'
         key_read x s' r = record { run = load-reads x l mid s' (rw mine at c) (runs_on open_key r) }
 
-        pub key_failed : (e : Error) (s' : PagerState N E) → RunsLoad v me own mid (LoadAnswer.Refused e) s' → ReadsOver v s key t (Err e) s'
+        pub key_failed : (e : Error) (s' : PagerState N E) → RunsLoad v me own mid (LoadOutcome.Refused e) s' → ReadsOver v s key t (Err e) s'
         key_failed e s' r = record { run = reading-fails e l mid s' (rw mine at c) (runs_on open_key r) }
 
   pub key_refused : (key t : ℕ) (e : Error) (s s' : PagerState N E) → MakesCall v (λ w'. BeginKeyCall s.core me key (Err e) w') s s'

@@ -1,14 +1,14 @@
 -- What decoding returns and what a load needs next, in terms of the specification; and what a blob asks for ahead.
 use Rattle.pagable_load.specs.{
   Frames.reading_of,
-  declared.{batch.Lookahead.Lookahead, decoding.Decoded.Decoded, reading.{Need.Need, Reading.Reading as Own}},
+  declared.{batch.Lookahead.Lookahead, decoding.Decoded.Decoded},
+  declared.reading.{LoadOutcome.LoadOutcome, Need.Need, Reading.Reading as Own},
 }
 use Rattle.pagable_pager_spec.specs.{
   Basics.Types,
   Loads.{ReadsNode, ReadsRoot, RefusesBlob, asks, is_faulty, need_of, needs_lazy, needs_nested, next_of, read_with},
   Loads.reads,
   World.{Frame, Reading, Values},
-  declared.events.LoadAnswer.LoadAnswer,
 }
 use Rattle.pagable_value_spec.specs.{
   Blob.Blob,
@@ -167,9 +167,9 @@ is_adoption (Need.Adopt x) = true
 is_adoption need = false
 
 -- if the load goes on, the frames have changed as the need says
-pub record FramesChangeFor {N : Type 0} (need : Need N) (answer : Option (LoadAnswer N))
+pub record FramesChangeFor {N : Type 0} (need : Need N) (outcome : Option (LoadOutcome N))
     (old new : List Frame) : Type 0 where
-  pub goes : answer ≡ None → FramesChange (is_adoption need) old new
+  pub goes : outcome ≡ None → FramesChange (is_adoption need) old new
 
 -- if the rows fit the old frames, the new rows fit the new ones
 pub record RowsStayFit (was_read : Bool) (new : List Frame) (rows rows' : List (List ArcRef)) : Type 0 where

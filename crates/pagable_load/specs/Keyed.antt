@@ -1,20 +1,22 @@
 -- What a load has read, by the hash alone: whatever the storage does, and whatever others do to the pager meanwhile.
-use Rattle.pagable_load.specs.Decoding.{IsReadAs}
+use Rattle.pagable_load.specs.{Decoding.IsReadAs, declared.reading.LoadOutcome.LoadOutcome}
 use Rattle.pagable_pager_spec.specs.{
   Basics.{Among, Tree, is_eager, type_of},
   Pager.{NodeStands, PagerState, ReadsNodeTree, ValueStands},
   World.{Frame, IsLawful, Values},
-  declared.events.LoadAnswer.LoadAnswer,
 }
 use Rattle.pagable_value_spec.specs.{
   Blob.{Blob, key_of},
   Canonical.IsReadableType,
   Merkle.HasOwnKeys,
   Trees.ReadsTree,
-  declared.numbers.ArcRef.ArcRef,
+  declared.{error.Error.Error, numbers.ArcRef.ArcRef},
 }
 use Rattle.std.specs.{
-  Prelude.{List, None, Option, Some, false, length, slice_get, ℕ, [], ◌∷◌, ◌≡◌, ◌≤◌},
+  Arc.arc_value,
+  Global.Global,
+  Prelude.{IfOk, IfSome, List, None, Option, Result, Some, false, length, slice_get, ℕ, [], ◌∷◌, ◌≡◌, ◌≤◌},
+  declared.sync.Arc.Arc,
 }
 
 -- P holds of each reference that was got, and of the blob's key at its place
@@ -61,17 +63,29 @@ pub data FramesKeyed {N : Type 0} (v : Values N) (key t : ℕ) : List Frame → 
       → slice_get g.blob.keys (length g.got) ≡ Some f.key → FramesKeyed v key t (g ∷ fs)
       → FramesKeyed v key t (f ∷ g ∷ fs)
 
+-- a load of a cell ends: the value that the cell gets was read under the key, or, if it had one, some value was
+abbrev pub IsEndKeyed : {N : Type 0} → Values N → ℕ → ℕ → Option (Arc N Global) → Type 0
+IsEndKeyed v key t (Some read) = IsKeyed v key t (arc_value read)
+IsEndKeyed v key t None = HasRead v key t
+
 -- how a load goes on or ends: what it returns was read under its key
-abbrev pub AfterKeyed : {N : Type 0} → Values N → ℕ → ℕ → Option (LoadAnswer N) → List Frame → Type 0
+abbrev pub AfterKeyed : {N : Type 0} → Values N → ℕ → ℕ → Option (LoadOutcome N) → List Frame → Type 0
 AfterKeyed v key t None frames = FramesKeyed v key t frames
-AfterKeyed v key t (Some (LoadAnswer.Read x)) frames = IsKeyed v key t x
-AfterKeyed v key t (Some (LoadAnswer.Pinned k)) frames = HasRead v key t
-AfterKeyed v key t (Some (LoadAnswer.Refused e)) frames = Unit {0}
+AfterKeyed v key t (Some (LoadOutcome.Read x)) frames = IsKeyed v key t x
+AfterKeyed v key t (Some (LoadOutcome.Pinned k read)) frames = IsEndKeyed v key t read
+AfterKeyed v key t (Some (LoadOutcome.Refused e)) frames = Unit {0}
+
+-- a value that a pin has read was read under the key that the pin names; below: the value that it shares
+abbrev pub IsPinKeyed : {N : Type 0} → Values N → Option ℕ → N → Type 0
+IsPinKeyed v read_from x = IfSome read_from (λ key. IsKeyed v key (v.node_type x) x)
+
+abbrev pub IsShareKeyed : {N : Type 0} → Values N → Option ℕ → Result (Option (Arc N Global)) Error → Type 0
+IsShareKeyed v read_from shared = IfOk shared (λ found. IfSome found (λ x. IsPinKeyed v read_from (arc_value x)))
 
 -- if the frames were keyed before, what follows is
-pub record StaysKeyed {N : Type 0} (v : Values N) (key t : ℕ) (old : List Frame) (answer : Option (LoadAnswer N))
+pub record StaysKeyed {N : Type 0} (v : Values N) (key t : ℕ) (old : List Frame) (outcome : Option (LoadOutcome N))
     (new : List Frame) : Type 0 where
-  pub follows : FramesKeyed v key t old → AfterKeyed v key t answer new
+  pub follows : FramesKeyed v key t old → AfterKeyed v key t outcome new
 
 -- a is held by a node that was read so
 pub record HoldsKeyed {N T : Type 0} (v : Values N) (held : N → Option T) (key t : ℕ) (a : T) : Type 0 where

@@ -3,6 +3,7 @@ pub mod ResolvedReferences
 pub mod Decoding
 pub mod Frames
 pub mod Keyed
+pub mod Outcomes
 pub mod LoadSteps
 pub mod WorkerCalls
 pub mod LoadEnd

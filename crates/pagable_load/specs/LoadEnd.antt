@@ -1,5 +1,6 @@
 -- Why every load ends: each step lowers a number. And how it ends.
-use Rattle.pagable_pager_spec.specs.{World.Frame, declared.events.LoadAnswer.LoadAnswer}
+use Rattle.pagable_load.specs.declared.reading.LoadOutcome.{LoadOutcome}
+use Rattle.pagable_pager_spec.specs.World.{Frame}
 use Rattle.pagable_value_spec.specs.declared.error.Error.{Error}
 use Rattle.std.specs.{
   Prelude.{Bool, Err, List, None, Ok, Option, Result, Some, false, length, suc, true, zero, ℕ, [], ◌*◌, ◌+◌, ◌-◌, ◌<◌},
@@ -36,13 +37,13 @@ to_do [] = weight 129 * many
 to_do (f ∷ fs) = left_in f * weight_on fs + waiting fs + 1
 
 -- a load of a cell ends with a pin, one of a key with a value; a step that doesn't end the load leaves less to do
-abbrev pub Leads : {N : Type 0} → Bool → List Frame → List Frame → Result (Option (LoadAnswer N)) Error → Type 0
+abbrev pub Leads : {N : Type 0} → Bool → List Frame → List Frame → Result (Option (LoadOutcome N)) Error → Type 0
 Leads for_cell old new (Ok None) = to_do new < to_do old
-Leads for_cell old new (Ok (Some (LoadAnswer.Pinned k))) = for_cell ≡ true
-Leads for_cell old new (Ok (Some (LoadAnswer.Read x))) = for_cell ≡ false
-Leads for_cell old new (Ok (Some (LoadAnswer.Refused e))) = Unit {0}
+Leads for_cell old new (Ok (Some (LoadOutcome.Pinned k read))) = for_cell ≡ true
+Leads for_cell old new (Ok (Some (LoadOutcome.Read x))) = for_cell ≡ false
+Leads for_cell old new (Ok (Some (LoadOutcome.Refused e))) = Unit {0}
 Leads for_cell old new (Err e) = Unit {0}
 
 pub record EndsOrLeavesLess {N : Type 0} (for_cell : Bool) (old new : List Frame)
-    (r : Result (Option (LoadAnswer N)) Error) : Type 0 where
+    (r : Result (Option (LoadOutcome N)) Error) : Type 0 where
   pub leads : Leads for_cell old new r

@@ -1,7 +1,8 @@
 -- What a load's step does, with or without what follows its failure, in terms of the specification.
 use Rattle.pagable_load.specs.{
   Frames.{IsLoadOf, frame_of, frames_of, frames_onto, reading_of},
-  declared.reading.{Frame.Frame as Held, Reading.Reading as Own},
+  Outcomes.answer_of,
+  declared.reading.{Frame.Frame as Held, LoadOutcome.LoadOutcome, Reading.Reading as Own},
 }
 use Rattle.pagable_pager_spec.specs.{
   Access.{LoadRun, MakesCall, ReadingStep},
@@ -13,6 +14,7 @@ use Rattle.pagable_pager_spec.specs.{
 }
 use Rattle.pagable_value_spec.specs.declared.{error.Error.Error, numbers.LoadNumber.LoadNumber}
 use Rattle.std.specs.{
+  Option.option_map,
   Prelude.{IfErr, IfOk, List, None, Option, Result, Some, vec_capacity, vec_len, ℕ, [], ◌<◌, ◌∷◌, ◌≡◌},
 }
 
@@ -25,8 +27,9 @@ pub record Met {N E : Type 0} (v : Values N) (me : Owner) (reading : Reading) (s
 
 -- A whole step, or one up to its failure, if the load is open and is as `own` says.
 pub record TriesStep {N E : Type 0} (v : Values N) (me : Owner) (own : Own) (s : PagerState N E)
-    (r : Result (Option (LoadAnswer N)) Error) (frames : List Frame) (t : PagerState N E) : Type 0 where
-  pub does : IsLoadOf s.core me own → IfOk r (λ answer. ReadingStep v me (reading_of own) s answer frames t)
+    (r : Result (Option (LoadOutcome N)) Error) (frames : List Frame) (t : PagerState N E) : Type 0 where
+  pub does : IsLoadOf s.core me own
+      → IfOk r (λ outcome. ReadingStep v me (reading_of own) s (option_map answer_of outcome) frames t)
   pub meets : IsLoadOf s.core me own → IfErr r (λ e. Met v me (reading_of own) s e t)
 
 -- the load is dropped, whatever the call returned
@@ -54,9 +57,9 @@ pub record TakenTwo (old new : Own) (top under : Held) : Type 0 where
   pub room : vec_len under.got < vec_capacity under.got
 
 -- all steps of a load, if it is open and is as `own` says
-pub record RunsLoad {N E : Type 0} (v : Values N) (me : Owner) (own : Own) (s : PagerState N E) (answer : LoadAnswer N)
+pub record RunsLoad {N E : Type 0} (v : Values N) (me : Owner) (own : Own) (s : PagerState N E) (outcome : LoadOutcome N)
     (t : PagerState N E) : Type 0 where
-  pub run : IsLoadOf s.core me own → LoadRun v me (reading_of own) s answer t
+  pub run : IsLoadOf s.core me own → LoadRun v me (reading_of own) s (answer_of outcome) t
 
 -- Some steps have been made: the load is still open, and a run from here continues to a run from the beginning.
 pub record HasGone {N E : Type 0} (v : Values N) (me : Owner) (own now : Own) (s t : PagerState N E) : Type 0 where
@@ -64,8 +67,8 @@ pub record HasGone {N E : Type 0} (v : Values N) (me : Owner) (own now : Own) (s
   pub then : IsLoadOf s.core me own → (answer : LoadAnswer N) (u : PagerState N E)
       → LoadRun v me (reading_of now) t answer u → LoadRun v me (reading_of own) s answer u
 
--- all steps up to the load's end; or some, if there is no answer yet
-abbrev pub RunsLoadOrPart : {N E : Type 0} → Values N → Owner → Own → Own → PagerState N E → Option (LoadAnswer N)
+-- all steps up to the load's end; or some, if it hasn't ended yet
+abbrev pub RunsLoadOrPart : {N E : Type 0} → Values N → Owner → Own → Own → PagerState N E → Option (LoadOutcome N)
     → PagerState N E → Type 0
-RunsLoadOrPart v me own now s (Some answer) t = RunsLoad v me own s answer t
+RunsLoadOrPart v me own now s (Some outcome) t = RunsLoad v me own s outcome t
 RunsLoadOrPart v me own now s None t = HasGone v me own now s t

@@ -1,5 +1,5 @@
 -- The begin of a pin, and how a pin is undone.
-use Rattle.pagable_load.specs.declared.access.PinStart.{PinStart}
+use Rattle.pagable_load.specs.declared.access.{EndedLoad.EndedLoad, PinStart.PinStart, StartedPin.StartedPin}
 use Rattle.pagable_pager_spec.specs.{
   Access.{IsValueOf, MakesCall, PinRun},
   Basics.if_there,
@@ -16,8 +16,11 @@ use Rattle.pagable_pager_spec.specs.{
 use Rattle.pagable_theorems.specs.TreeSteps.{HasPin}
 use Rattle.pagable_value_spec.specs.declared.{error.Error.Error, numbers.HandleNumber.HandleNumber}
 use Rattle.std.specs.{
+  Arc.arc_value,
+  Global.Global,
   Option.option_map,
   Prelude.{Bool, Err, IfErr, IfOk, Ok, Option, Result, Some, false, true, ◌≡◌, ◌⊎◌},
+  declared.sync.Arc.Arc,
 }
 
 -- whether the handle is live, loose and unpinned
@@ -40,6 +43,21 @@ pub record Shares {N E X : Type 0} (see : X → N) (s : PagerState N E) (h : Han
     (r : Result (Option X) Error) : Type 0 where
   pub given : IfOk r (λ found. ValueCall s h (Ok (option_map see found)))
   pub refused : IfErr r (λ e. (live_fault (row_at s.core h) ≡ Some e) ⊎ (e ≡ Error.OutOfMemory))
+
+-- how the pin began, as numbers only
+abbrev pub started_as : {N : Type 0} → StartedPin N → PinStart
+started_as (StartedPin.Pinned k was_unpinned shared) = PinStart.Pinned k was_unpinned
+started_as (StartedPin.Load l key t) = PinStart.Load l key t
+
+-- the value of the pinned node is shared, or sharing it fails
+abbrev pub SharesStarted : {N E : Type 0} → PagerState N E → StartedPin N → Type 0
+SharesStarted s (StartedPin.Pinned k was_unpinned shared) = Shares arc_value s k shared
+SharesStarted s (StartedPin.Load l key t) = Unit {0}
+
+-- how the load of a cell ended, with the value and not its share
+abbrev pub ended_of : {N : Type 0} → Result EndedLoad (Error × Option (Arc N Global)) → Result HandleNumber (Error × Option N)
+ended_of (Ok ended) = Ok ended.handle
+ended_of (Err e) = Err (e.0, option_map arc_value e.1)
 
 -- The value that a new pin shares. If the handle pins, the call fails only with OutOfMemory.
 pub record SharesPinned {N E X : Type 0} (see : X → N) (s : PagerState N E) (k : HandleNumber)

@@ -6,7 +6,7 @@ ghost use Rattle.pagable_load.specs.{
   AccessView.{Acting, Acts, ActsThen, AdoptsValue, AsksFor, AsksRoot, IfKnown, IsNamedOrKind, IsReadBy},
   AccessView.{MakesCallBringing, TakesLazily},
   AccessView.{as_caller, as_worker, values_at},
-  PinStart.{Shares, StartsPin},
+  PinStart.{Shares, SharesStarted, StartsPin, ended_of, started_as},
   WorkerCalls.{RefusesEntry, ReleasesIfKeyed, SetsKeyAndReleases, SharesTaken, StartsEntry, StoresNode},
   WorkerCalls.{TakesReference, fault_in, taken_of},
 };
@@ -15,13 +15,13 @@ ghost use Rattle.pagable_pager_spec.specs.{
   Calls.{ReleaseCall, ScheduleCall, SetKeyCall, StoreCall, TakeCall, UnpinCall},
   Cascade.FallsAnyhow,
   LoadCalls.{BeginKeyCall, DropCall, EndCall, HandOverCall},
-  Pager.{IsCellOf, IsNewNode, PagerState},
+  Pager.{IsCellOf, IsNewNode, PagerState, ValueCall},
   Refusals.WorkerFault,
   Workers.{WorkerEnds, claim_fault, is_workers_at},
   World.{Alike, result_map},
 };
 ghost use Rattle.pagable_value_spec.specs.{Blob.key_of, declared.numbers.HandleNumber.HandleNumber as Handle};
-ghost use Rattle.std.specs.{Arc.arc_value, Prelude.{IfErr, IfNone, IfOk, IfSome, Option, length, ◌≡◌, ◌≤◌}};
+ghost use Rattle.std.specs.{Arc.arc_value, Prelude.{IfErr, IfNone, IfOk, IfSome, Ok, Option, Some, length, true, ◌≡◌, ◌≤◌}};
 
 use either::Either;
 use pagable_codec::{Env, NodeSet};
@@ -45,6 +45,25 @@ pub enum PinStart {
     Load(LoadNumber, DataKey, u32),
 }
 
+/// How a pin of a loose handle begins, with the value if that is in memory.
+#[derive(Drop)]
+pub enum StartedPin<N> {
+    /// The value is in memory: the new Pinned handle, whether the loose handle was unpinned before,
+    /// and the result of sharing the value.
+    Pinned(HandleNumber, bool, Result<Option<Arc<N>>, Error>),
+    /// The value isn't in memory, and a load of it has begun: its number, its key, and the type of
+    /// the value.
+    Load(LoadNumber, DataKey, u32),
+}
+
+/// The pin with which a load of a cell has ended: the new Pinned handle, and whether the cell has
+/// got the value that the load read. If not, it had its value already.
+#[derive(Clone, Copy)]
+pub struct EndedLoad {
+    pub handle: HandleNumber,
+    pub came: bool,
+}
+
 /// The calls of a pager for one owner: the caller, or a page-out worker. If the access knows the
 /// pager's state, each call's clause says what the call does to that state; an access behind a lock
 /// doesn't know it. Only `worker_begin`, `worker_listed` and `worker_end` change the owner; no call
@@ -64,7 +83,9 @@ pub trait Access<E: Env<Node: NodeSet<E>>> {
     /// and written. No clause says what the context holds.
     fn session_context(&self) -> &SessionOf<E>;
 
-    /// Pins a loose handle if its value is in memory; otherwise begins a load of its cell.
+    /// Pins a loose handle if its value is in memory, and shares the value; otherwise begins a load
+    /// of its cell. If the value can't be shared, the handle is pinned all the same, and the error
+    /// stands in the answer.
     ///
     /// # Errors
     ///
@@ -73,10 +94,11 @@ pub trait Access<E: Env<Node: NodeSet<E>>> {
     /// - `WrongMode` if it isn't loose: nothing changes.
     /// - `NumbersSpent` if no number is left for a handle or a load: nothing changes.
     /// - `OutOfMemory` if a handle or a load can't be allocated: nothing changes.
-    fn begin_pin(&mut self, handle: HandleNumber) -> Result<PinStart, Error>
-        ensures { Acts known_state acting self.old self.new (λ a s t. MakesCall
-            (values_at E.Node.NodeSet E.Env E.Hash.KeyHash a.environment) (λ w'. StartsPin s.core a.me handle result w')
-            s t) };
+    fn begin_pin(&mut self, handle: HandleNumber) -> Result<StartedPin<E::Node>, Error>
+        ensures starts { Acts known_state acting self.old self.new (λ a s t. MakesCall
+            (values_at E.Node.NodeSet E.Env E.Hash.KeyHash a.environment)
+            (λ w'. StartsPin s.core a.me handle (result_map started_as result) w') s t) }
+        ensures shares { IfOk result (λ started. IfKnown (known_state self.new) (λ s. SharesStarted s started)) };
 
     /// Shares the value that a handle pins; returns None if the handle pins none.
     ///
@@ -260,8 +282,8 @@ pub trait Access<E: Env<Node: NodeSet<E>>> {
         ensures kind { IfOk result (λ r. r.kind ≡ kind) };
 
     /// Ends a load of a cell: pins the cell, which gets the value if it has none, and returns the
-    /// new Pinned handle. The value has to be the one that was read for the load's root, even if
-    /// the access doesn't know the pager's state.
+    /// new Pinned handle, and whether the cell has got the value. The value has to be the one that
+    /// was read for the load's root, even if the access doesn't know the pager's state.
     ///
     /// # Errors
     ///
@@ -279,13 +301,17 @@ pub trait Access<E: Env<Node: NodeSet<E>>> {
         &mut self,
         alloc: Global,
         load: LoadNumber,
-        value: E::Node,
-    ) -> Result<HandleNumber, (Error, Option<E::Node>)>
-        requires { IsReadBy (values_at E.Node.NodeSet E.Env E.Hash.KeyHash (acting self.old).environment) load value }
-        ensures { Acts known_state acting self.old self.new (λ a s t. MakesCallBringing
+        value: Arc<E::Node>,
+    ) -> Result<EndedLoad, (Error, Option<Arc<E::Node>>)>
+        requires { IsReadBy (values_at E.Node.NodeSet E.Env E.Hash.KeyHash (acting self.old).environment) load
+            (arc_value value) }
+        ensures acts { Acts known_state acting self.old self.new (λ a s t. MakesCallBringing
             (values_at E.Node.NodeSet E.Env E.Hash.KeyHash a.environment)
-            (λ w'. EndCall s.core a.me load value (E.Node.type_of value) (E.Node.refs_of value) result w')
-            (λ n x. (x ≡ value) × IsCellOf s.core load n) s t) };
+            (λ w'. EndCall s.core a.me load (arc_value value) (E.Node.type_of (arc_value value))
+            (E.Node.refs_of (arc_value value)) (ended_of result) w')
+            (λ n x. (x ≡ arc_value value) × IsCellOf s.core load n) s t) }
+        ensures given { IfOk result (λ ended. ended.came ≡ true → IfKnown (known_state self.new)
+            (λ s. ValueCall s ended.handle (Ok (Some (arc_value value))))) };
 
     /// Ends a load of a key: hands the named handles to this owner, and releases the load's other
     /// ones.

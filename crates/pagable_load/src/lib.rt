@@ -10,9 +10,11 @@ pub mod pin;
 pub mod reading;
 pub mod step;
 
-pub use access::{Access, PinStart, PinnedOrLoading, TakenValue, WorkerAccess, WorkerNode};
+pub use access::{
+    Access, EndedLoad, PinStart, PinnedOrLoading, StartedPin, TakenValue, WorkerAccess, WorkerNode,
+};
 pub use cell_reading::CellReading;
 pub use decoding::{Decoded, ResolvedReferences, decode};
 pub use pin::{BegunPin, begin_polled_pin};
-pub use reading::{Frame, Need, Reading};
-pub use step::{pin_over, pin_with_state_over, read_over, share_pinned};
+pub use reading::{Frame, LoadOutcome, Need, Reading};
+pub use step::{CellPin, pin_over, pin_with_state_over, read_over};

@@ -84,6 +84,18 @@ pub enum Need<N: Drop> {
     Refuse(Error),
 }
 
+/// How a load has ended.
+#[derive(Drop)]
+pub enum LoadOutcome<N: Drop> {
+    /// A load of a cell: the new Pinned handle, and the value if the cell has got the one that was
+    /// read. None if the cell had its value already.
+    Pinned(HandleNumber, Option<Arc<N>>),
+    /// A load of a key: the value.
+    Read(N),
+    /// The load was refused with this error.
+    Refused(Error),
+}
+
 impl<N: Drop> Need<N> {
     /// Returns whether the innermost blob was read and becomes a node.
     pub(crate) fn is_adoption(&self) -> bool

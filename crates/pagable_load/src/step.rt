@@ -5,10 +5,12 @@ ghost use Rattle.pagable_load.specs.{
   AccessView.{Acts, IfKnown, values_at},
   Decoding.{FramesChange, FramesChangeFor, IfValue, Needs, RowsFit, rows_of},
   Frames.{frames_of, reading_of},
-  Keyed.{IsKeyed, StaysKeyed},
+  Keyed.{IsKeyed, IsPinKeyed, IsShareKeyed, StaysKeyed},
   LoadEnd.EndsOrLeavesLess,
   LoadSteps.{Drops, IsSameLoad, RunsLoad, RunsLoadOrPart, TriesStep},
-  PinStart.{PinsWithLoad, SharesPinned, Unpins},
+  Outcomes.{GivesValue, GivesValueIf},
+  PinStart.{PinsWithLoad, Shares, Unpins},
+  declared.reading.LoadOutcome.LoadOutcome,
 };
 ghost use Rattle.pagable_pager_spec.specs.{
   Access.{PinsOver, ReadsOver},
@@ -22,12 +24,11 @@ ghost use Rattle.std.specs.{
   Prelude.{IfNone, IfOk, IfSome, IsSome, Ok, Some, false, length, true, [], ◌<◌, ◌≡◌},
 };
 
-use crate::access::{Access, PinStart};
+use crate::access::{Access, StartedPin};
 use crate::batch::Lookahead;
-use crate::reading::{Need, Reading, collect_handles};
+use crate::reading::{LoadOutcome, Need, Reading, collect_handles};
 use either::Either;
 use pagable_codec::{Env, NodeSet};
-use pagable_pager_spec::LoadAnswer;
 use pagable_value_spec::{DataKey, Error, HandleNumber, Kind};
 use std::alloc::Global;
 use std::sync::Arc;
@@ -40,7 +41,7 @@ impl Reading {
         alloc: Global,
         kind: Kind,
         key: DataKey,
-    ) -> Result<Option<LoadAnswer<E::Node>>, Error>
+    ) -> Result<Option<LoadOutcome<E::Node>>, Error>
         requires top { IsSome self.old.top }
         requires need { need_of (values_at E.Node.NodeSet E.Env E.Hash.KeyHash (A.acting access.old).environment).types
             (frames_of self.old.top self.old.below.items) ≡ needs_lazy kind key }
@@ -51,6 +52,7 @@ impl Reading {
             (frames_of self.new.top self.new.below.items) result }
         ensures goes { IfOk result (λ answer. FramesChange false (frames_of self.old.top self.old.below.items)
             (frames_of self.new.top self.new.below.items)) }
+        ensures given { IfOk result (λ outcome. IfKnown (A.known_state access.new) (λ s. GivesValueIf s outcome)) }
         ensures keyed { IfOk result (λ answer. StaysKeyed
             (values_at E.Node.NodeSet E.Env E.Hash.KeyHash (A.acting access.old).environment) self.old.key self.old.node_type
             (frames_of self.old.top self.old.below.items) answer (frames_of self.new.top self.new.below.items)) }
@@ -71,7 +73,7 @@ impl Reading {
         access: &mut A,
         alloc: Global,
         value: E::Node,
-    ) -> Result<Option<LoadAnswer<E::Node>>, Error>
+    ) -> Result<Option<LoadOutcome<E::Node>>, Error>
         requires top { IsSome self.old.top }
         requires below { 0 < length self.old.below.items }
         requires node { ReadsNode (values_at E.Node.NodeSet E.Env E.Hash.KeyHash (A.acting access.old).environment)
@@ -85,6 +87,7 @@ impl Reading {
             (frames_of self.new.top self.new.below.items) result }
         ensures goes { IfOk result (λ answer. FramesChange true (frames_of self.old.top self.old.below.items)
             (frames_of self.new.top self.new.below.items)) }
+        ensures given { IfOk result (λ outcome. IfKnown (A.known_state access.new) (λ s. GivesValueIf s outcome)) }
         ensures keyed { IfOk result (λ answer. StaysKeyed
             (values_at E.Node.NodeSet E.Env E.Hash.KeyHash (A.acting access.old).environment) self.old.key self.old.node_type
             (frames_of self.old.top self.old.below.items) answer (frames_of self.new.top self.new.below.items)) }
@@ -101,15 +104,16 @@ impl Reading {
         }
     }
 
-    // Ends the load with the root's value: the cell gets it and is pinned, or the caller gets it
-    // and the handles of its references.
+    // Ends the load of a cell with the root's value: pins the cell, which gets the value if it has
+    // none.
     #[tactic(auto, using(crate::proofs::Keyed::finishing))]
-    fn finish<E: Env<Node: NodeSet<E>>, A: Access<E>>(
+    fn finish_cell<E: Env<Node: NodeSet<E>>, A: Access<E>>(
         &mut self,
         access: &mut A,
         alloc: Global,
         value: E::Node,
-    ) -> Result<Option<LoadAnswer<E::Node>>, Error>
+    ) -> Result<Option<LoadOutcome<E::Node>>, Error>
+        requires cell { self.old.for_cell ≡ true }
         requires root { ReadsRoot (values_at E.Node.NodeSet E.Env E.Hash.KeyHash (A.acting access.old).environment)
             (reading_of self.old) value }
         requires holds { IfKnown (A.known_state access.old) (λ s. HoldsPinned
@@ -120,31 +124,66 @@ impl Reading {
         ensures leads { EndsOrLeavesLess self.old.for_cell (frames_of self.old.top self.old.below.items)
             (frames_of self.new.top self.new.below.items) result }
         ensures ends { IfOk result (λ answer. IsSome answer) }
+        ensures given { IfOk result (λ outcome. IfKnown (A.known_state access.new) (λ s. GivesValueIf s outcome)) }
+        ensures keyed { IfOk result (λ answer. StaysKeyed
+            (values_at E.Node.NodeSet E.Env E.Hash.KeyHash (A.acting access.old).environment) self.old.key self.old.node_type
+            (frames_of self.old.top self.old.below.items) answer (frames_of self.new.top self.new.below.items)) }
+        ensures same { IsSameLoad self.old self.new self.old.steps }
+    {
+        let read = match Arc::new(alloc, value) {
+            Ok(read) => read,
+            Err(_) => return Err(Error::OutOfMemory),
+        };
+        let kept = read.clone()?;
+        match access.load_end(alloc, self.load, read) {
+            Ok(ended) => {
+                self.top = None;
+                let brought = if ended.came { Some(kept) } else { None };
+                Ok(Some(LoadOutcome::Pinned(ended.handle, brought)))
+            }
+            Err((e, back)) => match back {
+                Some(_value) => Err(e),
+                None => {
+                    self.top = None;
+                    Ok(Some(LoadOutcome::Refused(e)))
+                }
+            },
+        }
+    }
+
+    // Ends the load with the root's value: the cell gets it and is pinned, or the caller gets it
+    // and the handles of its references.
+    #[tactic(auto, using(crate::proofs::Keyed::finishing))]
+    fn finish<E: Env<Node: NodeSet<E>>, A: Access<E>>(
+        &mut self,
+        access: &mut A,
+        alloc: Global,
+        value: E::Node,
+    ) -> Result<Option<LoadOutcome<E::Node>>, Error>
+        requires root { ReadsRoot (values_at E.Node.NodeSet E.Env E.Hash.KeyHash (A.acting access.old).environment)
+            (reading_of self.old) value }
+        requires holds { IfKnown (A.known_state access.old) (λ s. HoldsPinned
+            (values_at E.Node.NodeSet E.Env E.Hash.KeyHash (A.acting access.old).environment) s value) }
+        ensures acts { Acts A.known_state A.acting access.old access.new
+            (λ a s t. TriesStep (values_at E.Node.NodeSet E.Env E.Hash.KeyHash a.environment) a.me self.old s result
+            (frames_of self.new.top self.new.below.items) t) }
+        ensures leads { EndsOrLeavesLess self.old.for_cell (frames_of self.old.top self.old.below.items)
+            (frames_of self.new.top self.new.below.items) result }
+        ensures ends { IfOk result (λ answer. IsSome answer) }
+        ensures given { IfOk result (λ outcome. IfKnown (A.known_state access.new) (λ s. GivesValueIf s outcome)) }
         ensures keyed { IfOk result (λ answer. StaysKeyed
             (values_at E.Node.NodeSet E.Env E.Hash.KeyHash (A.acting access.old).environment) self.old.key self.old.node_type
             (frames_of self.old.top self.old.below.items) answer (frames_of self.new.top self.new.below.items)) }
         ensures same { IsSameLoad self.old self.new self.old.steps }
     {
         if self.for_cell {
-            return match access.load_end(alloc, self.load, value) {
-                Ok(handle) => {
-                    self.top = None;
-                    Ok(Some(LoadAnswer::Pinned(handle)))
-                }
-                Err((e, back)) => match back {
-                    Some(_value) => Err(e),
-                    None => {
-                        self.top = None;
-                        Ok(Some(LoadAnswer::Refused(e)))
-                    }
-                },
-            };
+            return self.finish_cell(access, alloc, value);
         }
         let references = value.refs(alloc)?;
         let named = collect_handles(alloc, references.as_slice())?;
         access.load_take(self.load, named.as_slice())?;
         self.top = None;
-        Ok(Some(LoadAnswer::Read(value)))
+        Ok(Some(LoadOutcome::Read(value)))
     }
 
     // Gets what the load needs, by at most one call of the access. Returns how the load ended, or
@@ -154,7 +193,7 @@ impl Reading {
         access: &mut A,
         alloc: Global,
         need: Need<E::Node>,
-    ) -> Result<Option<LoadAnswer<E::Node>>, Error>
+    ) -> Result<Option<LoadOutcome<E::Node>>, Error>
         requires need { Needs (values_at E.Node.NodeSet E.Env E.Hash.KeyHash (A.acting access.old).environment) self.old
             need }
         requires holds { IfKnown (A.known_state access.old) (λ s. IfValue need
@@ -166,6 +205,7 @@ impl Reading {
             (frames_of self.new.top self.new.below.items) result }
         ensures goes { IfOk result (λ answer. FramesChangeFor need answer (frames_of self.old.top self.old.below.items)
             (frames_of self.new.top self.new.below.items)) }
+        ensures given { IfOk result (λ outcome. IfKnown (A.known_state access.new) (λ s. GivesValueIf s outcome)) }
         ensures keyed { IfOk result (λ answer. StaysKeyed
             (values_at E.Node.NodeSet E.Env E.Hash.KeyHash (A.acting access.old).environment) self.old.key self.old.node_type
             (frames_of self.old.top self.old.below.items) answer (frames_of self.new.top self.new.below.items)) }
@@ -219,7 +259,7 @@ impl Reading {
         access: &mut A,
         alloc: Global,
         need: Need<E::Node>,
-    ) -> Option<LoadAnswer<E::Node>>
+    ) -> Option<LoadOutcome<E::Node>>
         requires need { Needs (values_at E.Node.NodeSet E.Env E.Hash.KeyHash (A.acting access.old).environment) self.old
             need }
         requires holds { IfKnown (A.known_state access.old) (λ s. IfValue need
@@ -232,6 +272,7 @@ impl Reading {
             (frames_of self.new.top self.new.below.items) (Ok result) }
         ensures goes { FramesChangeFor need result (frames_of self.old.top self.old.below.items)
             (frames_of self.new.top self.new.below.items) }
+        ensures given { IfKnown (A.known_state access.new) (λ s. GivesValueIf s result) }
         ensures keyed { StaysKeyed (values_at E.Node.NodeSet E.Env E.Hash.KeyHash (A.acting access.old).environment)
             self.old.key self.old.node_type (frames_of self.old.top self.old.below.items) result
             (frames_of self.new.top self.new.below.items) }
@@ -245,7 +286,7 @@ impl Reading {
             Err(e) => {
                 self.drop_failed_load(access);
                 self.steps = self.steps.saturating_add(1);
-                Some(LoadAnswer::Refused(e))
+                Some(LoadOutcome::Refused(e))
             }
         }
     }
@@ -259,13 +300,14 @@ impl Reading {
         &mut self,
         access: &mut A,
         alloc: Global,
-    ) -> Option<LoadAnswer<E::Node>>
+    ) -> Option<LoadOutcome<E::Node>>
         ensures acts { Acts A.known_state A.acting access.old access.new
             (λ a s t. TriesStep (values_at E.Node.NodeSet E.Env E.Hash.KeyHash a.environment) a.me
             self.old s (Ok result)
             (frames_of self.new.top self.new.below.items) t) }
         ensures leads { EndsOrLeavesLess self.old.for_cell (frames_of self.old.top self.old.below.items)
             (frames_of self.new.top self.new.below.items) (Ok result) }
+        ensures given { IfKnown (A.known_state access.new) (λ s. GivesValueIf s result) }
         ensures keyed { StaysKeyed (values_at E.Node.NodeSet E.Env E.Hash.KeyHash (A.acting access.old).environment)
             self.old.key self.old.node_type (frames_of self.old.top self.old.below.items) result
             (frames_of self.new.top self.new.below.items) }
@@ -291,12 +333,13 @@ impl Reading {
         &mut self,
         access: &mut A,
         alloc: Global,
-    ) -> Option<LoadAnswer<E::Node>>
+    ) -> Option<LoadOutcome<E::Node>>
         ensures acts { Acts A.known_state A.acting access.old access.new
             (λ a s t. RunsLoadOrPart (values_at E.Node.NodeSet E.Env E.Hash.KeyHash a.environment) a.me
             self.old self.new s
             result t) }
         ensures ends { IfSome result (λ answer. EndsOrLeavesLess self.old.for_cell [] [] (Ok (Some answer))) }
+        ensures given { IfKnown (A.known_state access.new) (λ s. GivesValueIf s result) }
         ensures keyed { StaysKeyed (values_at E.Node.NodeSet E.Env E.Hash.KeyHash (A.acting access.old).environment)
             self.old.key self.old.node_type (frames_of self.old.top self.old.below.items) result
             (frames_of self.new.top self.new.below.items) }
@@ -323,7 +366,7 @@ impl Reading {
         access: &mut A,
         alloc: Global,
         ahead: &mut Lookahead,
-    ) -> Option<LoadAnswer<E::Node>>
+    ) -> Option<LoadOutcome<E::Node>>
         requires ahead { RowsFit (values_at E.Node.NodeSet E.Env E.Hash.KeyHash
             (A.acting access.old).environment).types (frames_of self.old.top self.old.below.items) (rows_of ahead.old) }
         ensures acts { Acts A.known_state A.acting access.old access.new
@@ -332,6 +375,7 @@ impl Reading {
             (frames_of self.new.top self.new.below.items) t) }
         ensures leads { EndsOrLeavesLess self.old.for_cell (frames_of self.old.top self.old.below.items)
             (frames_of self.new.top self.new.below.items) (Ok result) }
+        ensures given { IfKnown (A.known_state access.new) (λ s. GivesValueIf s result) }
         ensures keyed { StaysKeyed (values_at E.Node.NodeSet E.Env E.Hash.KeyHash (A.acting access.old).environment)
             self.old.key self.old.node_type (frames_of self.old.top self.old.below.items) result
             (frames_of self.new.top self.new.below.items) }
@@ -358,9 +402,10 @@ impl Reading {
         &mut self,
         access: &mut A,
         alloc: Global,
-    ) -> LoadAnswer<E::Node>
+    ) -> LoadOutcome<E::Node>
         ensures acts { Acts A.known_state A.acting access.old access.new
             (λ a s t. RunsLoad (values_at E.Node.NodeSet E.Env E.Hash.KeyHash a.environment) a.me self.old s result t) }
+        ensures given { IfKnown (A.known_state access.new) (λ s. GivesValue s result) }
         ensures keyed { StaysKeyed (values_at E.Node.NodeSet E.Env E.Hash.KeyHash (A.acting access.old).environment)
             self.old.key self.old.node_type (frames_of self.old.top self.old.below.items) (Some result)
             (frames_of self.new.top self.new.below.items) }
@@ -380,26 +425,89 @@ impl Reading {
 
 // ---- whole operations
 
-// Pins a loose handle's cell, loading its value if it isn't in memory. Returns the new Pinned
-// handle, and whether the loose handle was unpinned before.
+// A pin of a loose handle's cell: the new Pinned handle, whether the loose handle was unpinned
+// before, the result of sharing the value, and the key under which the pin's load has read it; None
+// if the cell had the value.
+#[derive(Drop)]
+struct MadePin<N> {
+    handle: HandleNumber,
+    was_unpinned: bool,
+    shared: Result<Option<Arc<N>>, Error>,
+    read_from: Option<DataKey>,
+}
+
+/// A new pin of a loose handle's cell.
+#[derive(Drop)]
+pub struct CellPin<N> {
+    /// The new Pinned handle.
+    pub handle: HandleNumber,
+    /// The value that it pins.
+    pub value: Arc<N>,
+    /// Whether the loose handle was unpinned before: then whoever undoes the pin has to unpin it.
+    pub was_unpinned: bool,
+    /// The key under which this pin has read the value; None if the cell had its value.
+    pub read_from: Option<DataKey>,
+}
+
+// Pins a cell whose load has ended with a pin, by a handle that was unpinned before: its value is
+// the one that the load has read under this key, or, if the load hasn't brought it, is shared.
+fn ended_pin<E: Env<Node: NodeSet<E>>, A: Access<E>>(
+    access: &A,
+    handle: HandleNumber,
+    key: DataKey,
+    read: Option<Arc<E::Node>>,
+) -> MadePin<E::Node>
+    requires given { IfKnown (A.known_state access.now) (λ s. GivesValue s (LoadOutcome.Pinned handle read)) }
+    ensures handle { result.handle ≡ handle }
+    ensures was_unpinned { result.was_unpinned ≡ true }
+    ensures shares { IfKnown (A.known_state access.now) (λ s. Shares arc_value s handle result.shared) }
+    ensures key { IfSome result.read_from (λ from. (from ≡ key) × (result.shared ≡ Ok read) × IsSome read) }
+{
+    match read {
+        Some(value) => MadePin {
+            handle,
+            was_unpinned: true,
+            shared: Ok(Some(value)),
+            read_from: Some(key),
+        },
+        None => MadePin {
+            handle,
+            was_unpinned: true,
+            shared: access.share(handle),
+            read_from: None,
+        },
+    }
+}
+
+// Pins a loose handle's cell, loading its value if it isn't in memory.
 #[tactic(auto, using(crate::proofs::LoadSteps::acts_map, crate::proofs::PinsAndReads::start_refused))]
 fn pin_with_load<E: Env<Node: NodeSet<E>>, A: Access<E>>(
     access: &mut A,
     alloc: Global,
     handle: HandleNumber,
-) -> Result<(HandleNumber, bool), Error>
+) -> Result<MadePin<E::Node>, Error>
     requires caller { (A.acting access.old).me ≡ Owner.Caller }
-    ensures { Acts A.known_state A.acting access.old access.new
-        (λ a s t. PinsWithLoad (values_at E.Node.NodeSet E.Env E.Hash.KeyHash a.environment) s handle result t) }
+    ensures acts { Acts A.known_state A.acting access.old access.new
+        (λ a s t. PinsWithLoad (values_at E.Node.NodeSet E.Env E.Hash.KeyHash a.environment) s handle
+        (result_map (λ made. (made.handle, made.was_unpinned)) result) t) }
+    ensures shares { IfOk result
+        (λ made. IfKnown (A.known_state access.new) (λ s. Shares arc_value s made.handle made.shared)) }
+    ensures keyed { IfOk result (λ made. IsShareKeyed (values_at E.Node.NodeSet E.Env E.Hash.KeyHash
+        (A.acting access.old).environment) made.read_from made.shared) }
 {
     match access.begin_pin(handle)? {
-        PinStart::Pinned(pinned, was_unpinned) => Ok((pinned, was_unpinned)),
-        PinStart::Load(load, key, node_type) => {
+        StartedPin::Pinned(pinned, was_unpinned, shared) => Ok(MadePin {
+            handle: pinned,
+            was_unpinned,
+            shared,
+            read_from: None,
+        }),
+        StartedPin::Load(load, key, node_type) => {
             let mut reading = Reading::new(alloc, load, key, node_type, true);
             match reading.run(access, alloc) {
-                LoadAnswer::Pinned(pinned) => Ok((pinned, true)),
-                LoadAnswer::Refused(e) => Err(e),
-                LoadAnswer::Read(_) => unreachable!(),
+                LoadOutcome::Pinned(pinned, read) => Ok(ended_pin(access, pinned, key, read)),
+                LoadOutcome::Refused(e) => Err(e),
+                LoadOutcome::Read(_) => unreachable!(),
             }
         }
     }
@@ -421,55 +529,9 @@ fn unpin_again<E: Env<Node: NodeSet<E>>, A: Access<E>>(
     }
 }
 
-/// Shares the value that a new pin holds.
-///
-/// # Errors
-///
-/// - `NoSuchHandle` if the handle isn't live or pins nothing. If the access tells its state, a
-///   live handle that pins never meets this error.
-/// - `OutOfMemory` if the value can't be shared.
-#[tactic(auto, using(crate::proofs::Lending::pinning))]
-pub fn share_pinned<E: Env<Node: NodeSet<E>>, A: Access<E>>(
-    access: &A,
-    pinned: HandleNumber,
-) -> Result<Arc<E::Node>, Error>
-    ensures { IfKnown (A.known_state access.now) (λ s. SharesPinned arc_value s pinned result) }
-{
-    match access.share(pinned)? {
-        Some(value) => Ok(value),
-        None => Err(Error::NoSuchHandle),
-    }
-}
-
-/// Does what `pin_over` does, and returns also whether the loose handle was unpinned before: then
-/// whoever undoes the pin has to unpin the loose handle.
-///
-/// # Errors
-///
-/// - those of `pin_over`.
-pub fn pin_with_state_over<E: Env<Node: NodeSet<E>>, A: Access<E>>(
-    access: &mut A,
-    alloc: Global,
-    handle: HandleNumber,
-) -> Result<(HandleNumber, Arc<E::Node>, bool), Error>
-    requires caller { (A.acting access.old).me ≡ Owner.Caller }
-    ensures { Acts A.known_state A.acting access.old access.new
-        (λ a s t. PinsOver (values_at E.Node.NodeSet E.Env E.Hash.KeyHash a.environment) s handle
-        (result_map (λ a. (a.0, arc_value a.1)) result) t) }
-{
-    let (pinned, was_unpinned) = pin_with_load(access, alloc, handle)?;
-    match share_pinned(access, pinned) {
-        Ok(value) => Ok((pinned, value, was_unpinned)),
-        Err(e) => {
-            unpin_again(access, handle, was_unpinned);
-            let _told = access.release(pinned);
-            Err(e)
-        }
-    }
-}
-
 /// Pins a loose handle's cell for the caller, loading its value if it isn't in memory, and returns
-/// the new Pinned handle and the shared value. The access has to be the caller's.
+/// the new pin with the shared value. The access has to be the caller's. Whatever the storage does,
+/// a value that the pin has read is what the blob of its key reads as.
 ///
 /// # Errors
 ///
@@ -478,6 +540,48 @@ pub fn pin_with_state_over<E: Env<Node: NodeSet<E>>, A: Access<E>>(
 /// - those of `Access::begin_pin`.
 /// - those of a load's steps.
 /// - `OutOfMemory` if the value can't be shared.
+/// - `NoSuchHandle` if an access that doesn't tell its state finds the new pin gone.
+pub fn pin_with_state_over<E: Env<Node: NodeSet<E>>, A: Access<E>>(
+    access: &mut A,
+    alloc: Global,
+    handle: HandleNumber,
+) -> Result<CellPin<E::Node>, Error>
+    requires caller { (A.acting access.old).me ≡ Owner.Caller }
+    ensures acts { Acts A.known_state A.acting access.old access.new
+        (λ a s t. PinsOver (values_at E.Node.NodeSet E.Env E.Hash.KeyHash a.environment) s handle
+        (result_map (λ pin. (pin.handle, arc_value pin.value)) result) t) }
+    ensures keyed { IfOk result (λ pin. IsPinKeyed (values_at E.Node.NodeSet E.Env E.Hash.KeyHash
+        (A.acting access.old).environment) pin.read_from (arc_value pin.value)) }
+{
+    let MadePin {
+        handle: pinned,
+        was_unpinned,
+        shared,
+        read_from,
+    } = pin_with_load(access, alloc, handle)?;
+    let refused = match shared {
+        Ok(Some(value)) => {
+            return Ok(CellPin {
+                handle: pinned,
+                value,
+                was_unpinned,
+                read_from,
+            });
+        }
+        Ok(None) => Error::NoSuchHandle,
+        Err(e) => e,
+    };
+    unpin_again(access, handle, was_unpinned);
+    let _told = access.release(pinned);
+    Err(refused)
+}
+
+/// Does what `pin_with_state_over` does, and returns only the new Pinned handle and the shared
+/// value.
+///
+/// # Errors
+///
+/// - those of `pin_with_state_over`.
 pub fn pin_over<E: Env<Node: NodeSet<E>>, A: Access<E>>(
     access: &mut A,
     alloc: Global,
@@ -488,8 +592,8 @@ pub fn pin_over<E: Env<Node: NodeSet<E>>, A: Access<E>>(
         (λ a s t. PinsOver (values_at E.Node.NodeSet E.Env E.Hash.KeyHash a.environment) s handle
         (result_map (λ a. (a.0, arc_value a.1)) result) t) }
 {
-    let (pinned, value, _) = pin_with_state_over(access, alloc, handle)?;
-    Ok((pinned, value))
+    let pin = pin_with_state_over(access, alloc, handle)?;
+    Ok((pin.handle, pin.value))
 }
 
 /// Reads a key as a value of this type, with all that is loaded with it. The caller owns the
@@ -514,8 +618,8 @@ pub fn read_over<E: Env<Node: NodeSet<E>>, A: Access<E>>(
     let load = access.load_key(key)?;
     let mut reading = Reading::new(alloc, load, key, node_type, false);
     match reading.run(access, alloc) {
-        LoadAnswer::Read(value) => Ok(value),
-        LoadAnswer::Refused(e) => Err(e),
-        LoadAnswer::Pinned(_) => unreachable!(),
+        LoadOutcome::Read(value) => Ok(value),
+        LoadOutcome::Refused(e) => Err(e),
+        LoadOutcome::Pinned(_, _) => unreachable!(),
     }
 }
