@@ -30,6 +30,12 @@ pub record IsPinOfClone (clones pins : HandleNumber → HandleNumber → Type 0)
   pub cloned : clones handle clone
   pub pinned : pins clone pin
 
+-- some node that was read as the relation says holds the value
+pub record HoldsRead {N T : Type 0} (held : N → Option T) (value : T) (read_as : N → Type 0) : Type 0 where
+  pub node : N
+  pub read : read_as node
+  pub holds : held node ≡ Some value
+
 -- whether a cell has to be paged out, by the storage's answer for its key: it has to if it has no key
 abbrev pub needs_by : Result OptionalDataKey Error → Result Bool Error
 needs_by (Ok OptionalDataKey.None) = Ok true

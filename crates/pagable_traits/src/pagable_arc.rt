@@ -1,7 +1,7 @@
 //! Loose references: they hold no value, and are pinned to get it.
 
 ghost use Rattle.pagable_traits.specs.{
-  Erased.{IsInserted, IsPinOfClone, IsValueOfHandle},
+  Erased.{HoldsRead, IsInserted, IsPinOfClone, IsValueOfHandle},
   Meanings.exactly,
   References.{loose_kind, loose_means, loose_reference, reference_has_one_form},
   declared.{pin_future.PinStage.PinStage, storage.FirstHandle.FirstHandle},
@@ -184,14 +184,43 @@ impl<T> PagableArc<T> {
         ensures node { IfOk result (λ p. p.node ≡ self.now.node) }
         ensures pin { IfOk result (λ p. S.pins storage.now self.now.handle p.handle) }
     {
+        let (pin, _key) = self.pin_and_key(rt, alloc, storage)?;
+        Ok(pin)
+    }
+
+    /// Does what `pin_sync` does, and returns also the key under which this call has read the
+    /// value; None if the value was in memory.
+    ///
+    /// # Errors
+    ///
+    /// - as `pin_sync`: handles and counts are as they were.
+    pub fn pin_and_key<E: Env, R: Wait, S: Storage<E>>(
+        &self,
+        rt: &R,
+        alloc: Global,
+        storage: &S,
+    ) -> Result<(PinnedPagableArc<T>, Option<DataKey>), Error>
+    where
+        T: OfNode<E> + Drop,
+        ensures value { IfOk result (λ p. IsValueOfHandle T.held (S.nodes_by_handle storage.now) self.now.handle.0
+            (arc_value p.0.value)) }
+        ensures node { IfOk result (λ p. p.0.node ≡ self.now.node) }
+        ensures pin { IfOk result (λ p. S.pins storage.now self.now.handle p.0.handle) }
+        ensures keyed { IfOk result (λ p. IfSome p.1
+            (λ key. HoldsRead T.held (arc_value p.0.value) (S.reads storage.now key))) }
+    {
         let pin = storage.pin(rt, alloc, self.handle)?;
         let NewPin {
             handle,
             value: node,
             was_unpinned,
+            read_from,
         } = pin;
         let refused = match T::from_node(alloc, node.as_ref()) {
-            Ok(Some(value)) => return Ok(PinnedPagableArc::from_handle(self.node, handle, value)),
+            Ok(Some(value)) => {
+                let pin = PinnedPagableArc::from_handle(self.node, handle, value);
+                return Ok((pin, read_from));
+            }
             Ok(None) => Error::WrongKind,
             Err(e) => e,
         };

@@ -1,13 +1,18 @@
 //! Pins that wait without a thread: a task polls them, as it polls its other futures.
 
 ghost use Rattle.futures.specs.{Poll.{IfReady, OnPending}, Task.{IsArmed, Keeps}};
-ghost use Rattle.std.specs.Prelude.{Err, IfOk, ◌≡◌};
+ghost use Rattle.pagable_traits.specs.Erased.{HoldsRead};
+ghost use Rattle.std.specs.{
+  Arc.arc_value,
+  Prelude.{Err, IfOk, IfSome, ℕ, ◌≡◌},
+};
 
 use crate::arc::PinnedPagableArc;
 use crate::storage::NewPin;
 use futures::task::{Context, Poll};
 use pagable_codec::{Env, HandleNumber, NodeNumber, OfNode};
 use pagable_flavors::Error;
+use pagable_value_spec::DataKey;
 use std::alloc::Global;
 use std::marker::PhantomData;
 use std::sync::Wait;
@@ -30,10 +35,13 @@ pub trait Polls<E: Env>: Sized {
 
     ghost stage: { Self → PinStage };
 
+    // What holds of a value that was read under a key. By default nothing is said.
+    ghost reads: { Self → ℕ → E.Node → Type 0 } = { λ s k x. Unit {0} };
+
     /// Begins the pin at the first poll. If the value isn't in memory, polls the fetch of the
-    /// cell's blob and, once that is ready, reads the value. Then pins the cell. Nested blobs are
-    /// fetched by blocking calls. A poll is pending only if the fetch is, which has left a waker in
-    /// `cx`.
+    /// cell's blob and, once that is ready, reads the value. Then pins the cell, and says under
+    /// which key it has read the value, if it has. Nested blobs are fetched by blocking calls. A
+    /// poll is pending only if the fetch is, which has left a waker in `cx`.
     ///
     /// # Errors
     ///
@@ -48,7 +56,9 @@ pub trait Polls<E: Env>: Sized {
         ensures pending { OnPending result ((stage self.new ≡ PinStage.Fetch) × IsArmed cx.new) }
         ensures answered { IfReady result (λ r. stage self.new ≡ PinStage.Ended) }
         ensures ended { stage self.old ≡ PinStage.Ended → result ≡ Poll.Ready (Err Error.NoSuchHandle) }
-        ensures kept { Keeps cx.old cx.new };
+        ensures kept { Keeps cx.old cx.new }
+        ensures keyed { IfReady result (λ r. IfOk r (λ p. IfSome p.read_from
+            (λ key. reads self.old key (arc_value p.value)))) };
 
     /// Undoes the pin that `poll` has returned with the handle `pinned`: releases that handle, and
     /// unpins the loose handle again if it was unpinned before the pin.
@@ -104,10 +114,41 @@ impl<T, P> PinFuture<T, P> {
         ensures node { IfReady result (λ r. IfOk r (λ pin. pin.node ≡ self.old.node)) }
         ensures kept { Keeps cx.old cx.new }
     {
+        match self.poll_and_key(rt, alloc, cx) {
+            Poll::Ready(Ok((pin, _key))) => Poll::Ready(Ok(pin)),
+            Poll::Ready(Err(e)) => Poll::Ready(Err(e)),
+            Poll::Pending => Poll::Pending,
+        }
+    }
+
+    /// Does what `poll` does, and returns also the key under which this pin has read the value;
+    /// None if the value was in memory.
+    ///
+    /// # Errors
+    ///
+    /// - as `poll`: handles and counts are as they were.
+    pub fn poll_and_key<E: Env, R: Wait>(
+        &mut self,
+        rt: &R,
+        alloc: Global,
+        cx: &mut Context<'_>,
+    ) -> Poll<Result<(PinnedPagableArc<T>, Option<DataKey>), Error>>
+    where
+        P: Polls<E>,
+        T: OfNode<E> + Drop,
+        ensures pending { OnPending result ((P.stage self.new.pin ≡ PinStage.Fetch) × IsArmed cx.new) }
+        ensures answered { IfReady result (λ r. P.stage self.new.pin ≡ PinStage.Ended) }
+        ensures ended { P.stage self.old.pin ≡ PinStage.Ended → result ≡ Poll.Ready (Err Error.NoSuchHandle) }
+        ensures node { IfReady result (λ r. IfOk r (λ p. p.0.node ≡ self.old.node)) }
+        ensures kept { Keeps cx.old cx.new }
+        ensures keyed { IfReady result (λ r. IfOk r (λ p. IfSome p.1
+            (λ key. HoldsRead T.held (arc_value p.0.value) (P.reads self.old.pin key)))) }
+    {
         let NewPin {
             handle,
             value: node,
             was_unpinned,
+            read_from,
         } = match self.pin.poll(rt, alloc, cx) {
             Poll::Ready(Ok(pin)) => pin,
             Poll::Ready(Err(e)) => return Poll::Ready(Err(e)),
@@ -115,7 +156,8 @@ impl<T, P> PinFuture<T, P> {
         };
         let refused = match T::from_node(alloc, node.as_ref()) {
             Ok(Some(value)) => {
-                return Poll::Ready(Ok(PinnedPagableArc::from_handle(self.node, handle, value)));
+                let pin = PinnedPagableArc::from_handle(self.node, handle, value);
+                return Poll::Ready(Ok((pin, read_from)));
             }
             Ok(None) => Error::WrongKind,
             Err(e) => e,

@@ -30,13 +30,15 @@ pub enum FirstHandle {
     Pinned,
 }
 
-/// A new pin: its handle, the value that it holds, and whether the loose handle from which it was
-/// made was unpinned before.
+/// A new pin: its handle, the value that it holds, whether the loose handle from which it was made
+/// was unpinned before, and the key under whose blob this pin has read the value from the storage:
+/// None if the value was in memory already.
 #[derive(Drop)]
 pub struct NewPin<N> {
     pub handle: HandleNumber,
     pub value: Arc<N>,
     pub was_unpinned: bool,
+    pub read_from: Option<DataKey>,
 }
 
 /// A store of nodes, to which handles refer. `PagableArc`, `PinnedPagableArc` and `Arc` insert, pin
@@ -62,6 +64,9 @@ pub trait Storage<E: Env> {
     ghost clones: { Self → Handle → Handle → Type 0 } = { λ s h k. Unit {0} };
 
     ghost pins: { Self → Handle → Handle → Type 0 } = { λ s h k. Unit {0} };
+
+    // What holds of a value that was read under a key.
+    ghost reads: { Self → ℕ → E.Node → Type 0 } = { λ s k x. Unit {0} };
 
     ghost unpin_answers: { Self → Handle → Result (Unit {0}) Refusal → Type 0 } = { λ s h r. Unit {0} };
 
@@ -121,7 +126,7 @@ pub trait Storage<E: Env> {
         ensures clone { IfOk result (clones self.now handle) };
 
     /// Pins the cell of a loose handle that the caller owns, loading its value if it isn't in
-    /// memory.
+    /// memory. The pin says under which key it has read the value, if it has.
     ///
     /// # Errors
     ///
@@ -138,7 +143,8 @@ pub trait Storage<E: Env> {
     ) -> Result<NewPin<E::Node>, Error>
         ensures value { IfOk result (λ p. IfSome (nodes_by_handle self.now)
             (λ at. at handle.0 ≡ Some (arc_value p.value))) }
-        ensures pin { IfOk result (λ p. pins self.now handle p.handle) };
+        ensures pin { IfOk result (λ p. pins self.now handle p.handle) }
+        ensures keyed { IfOk result (λ p. IfSome p.read_from (λ key. reads self.now key (arc_value p.value))) };
 
     /// Returns a polled pin of the cell of a loose handle that the caller owns. Its first poll
     /// begins the pin.
