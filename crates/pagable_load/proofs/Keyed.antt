@@ -86,7 +86,7 @@ module _ {N : Type 0} (v : Values N) (key t : ℕ) where
         came = own.came;
       }
 
-  root_comes : {new : List Frame} (blob : Blob) → new ≡ root_frame key t blob ∷ [] → key_of v.hash blob ≡ key → FramesKeyed v key t new
+  pub root_comes : {new : List Frame} (blob : Blob) → new ≡ root_frame key t blob ∷ [] → key_of v.hash blob ≡ key → FramesKeyed v key t new
   root_comes blob is named = subst (FramesKeyed v key t) (sym is)
       (root-keyed (root_frame key t blob) (frame_new (root_frame key t blob) refl named) refl refl)
 
@@ -183,6 +183,11 @@ from_root {N} {v} {key} {key'} {t} {t'} {frames} {new} {outcome} blob of_key of_
 -- the value's own type is the one as which it was read
 pub own_type : {N : Type 0} {v : Values N} {key t : ℕ} {x : N} → IsKeyed v key t x → IsKeyed v key (v.node_type x) x
 own_type {v = v} {key = key} {x = x} read = subst (λ u. IsKeyed v key u x) (sym read.read.typed) read
+
+-- a value that was read from a blob without references
+pub leaf_keyed : {N : Type 0} {v : Values N} {key t : ℕ} {x : N} (blob : Blob) → key_of v.hash blob ≡ key → IsReadAs v t blob [] x → IsKeyed v key t x
+leaf_keyed {v = v} blob named read =
+    record { blob = blob; got = []; named = named; few = omega arith; read = read; came = none_got (Came v) blob.keys }
 
 -- a pin that names a key shares the value that its load has read under it
 pub share_keyed : {N : Type 0} (v : Values N) (key t : ℕ) (read : Option (Arc N Global)) (read_from : Option ℕ) (shared : Result (Option (Arc N Global)) Error)

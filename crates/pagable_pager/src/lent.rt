@@ -3,18 +3,21 @@
 #![tactic(auto, using(crate::proofs::LentCalls::lending))]
 
 ghost use Rattle.pagable_core.specs.Data.{blob_of};
-ghost use Rattle.pagable_load.specs.AccessView.{values_at};
+ghost use Rattle.pagable_load.specs.{AccessView.values_at, Keyed.IsKeyed, PinStart.ended_of};
 ghost use Rattle.pagable_pager.specs.{
   Leaf.{LeafLoads, PinsPagedOut},
-  View.{AddsNoValue, BetweenIfHonest, Calls, ChangesOnlyTables, may_call, pager_core, pager_state},
+  View.{AddsNoValue, BetweenIfHonest, BringsToCell, Calls, ChangesOnlyTables, may_call, pager_core, pager_state},
 };
 ghost use Rattle.pagable_pager_spec.specs.{
+  Access.IsValueOf,
   Calls.{ClearCall, OfferCall, RecallCall},
-  Pager.IsPagerWhole,
+  LoadCalls.EndCall,
+  Pager.{IsPagerWhole, ValueCall},
   World.result_map,
 };
 ghost use Rattle.pagable_tables.specs.{HandleTable.room, Leaf.IsLeaf, Soundness.is_sound};
-ghost use Rattle.std.specs.{Arc.arc_value, Prelude.{IfErr, IfOk, IsTrue, true, ◌≡◌, ◌≤◌}};
+ghost use Rattle.pagable_value_spec.specs.Blob.{key_of};
+ghost use Rattle.std.specs.{Arc.arc_value, Option.option_map, Prelude.{IfErr, IfOk, IfSome, IsTrue, Ok, Some, true, ◌≡◌, ◌≤◌}};
 
 use crate::pager::Pager;
 use crate::pager::leaf::read_leaf;
@@ -22,7 +25,9 @@ use crate::pins::{read_rest, reading_with_root};
 use either::Either;
 use pagable_codec::{Env, NodeSet};
 use pagable_core::{PagableData, PagableStorage, SessionOf};
-use pagable_load::{Access, PinStart, PinnedOrLoading, TakenValue, WorkerAccess, WorkerNode};
+use pagable_load::{
+    Access, EndedLoad, PinStart, PinnedOrLoading, StartedPin, TakenValue, WorkerAccess, WorkerNode,
+};
 use pagable_pager_spec::handle_row::Owner;
 use pagable_pager_spec::{Beginning, FetchTarget};
 use pagable_tables::checks;
@@ -104,6 +109,32 @@ impl<'a, E: Env<Node: NodeSet<E>>, S: PagableStorage<E>> Lent<'a, E, S> {
         self.pager.is_sound()
     }
 
+    /// Ends a load of this access's owner with a value, as `Access::load_end` does. An access behind
+    /// a lock ends its loads by this call: it can't name this pager's environment, so it asks in its
+    /// own contract that the value was read.
+    ///
+    /// # Errors
+    ///
+    /// - those of `Access::load_end`.
+    pub fn end_load(
+        &mut self,
+        alloc: Global,
+        load: LoadNumber,
+        value: Arc<E::Node>,
+    ) -> Result<EndedLoad, (Error, Option<Arc<E::Node>>)>
+        ensures step { EndCall (pager_core S.PagableStorage self.old.pager.now) self.old.me load (arc_value value)
+            (E.Node.type_of (arc_value value)) (E.Node.refs_of (arc_value value)) (ended_of result)
+            (pager_core S.PagableStorage self.new.pager.now) }
+        ensures moves { BringsToCell S.PagableStorage load (arc_value value) self.old.pager.now self.new.pager.now }
+        ensures given { IfOk result (λ ended. ended.came ≡ true
+            → ValueCall (pager_state S.PagableStorage self.new.pager.now) ended.handle (Ok (Some (arc_value value)))) }
+        ensures storage { self.new.pager.now.storage ≡ self.old.pager.now.storage }
+        ensures lender { self.new.pager.ghost_name ≡ self.old.pager.ghost_name }
+        ensures me { self.new.me ≡ self.old.me }
+    {
+        self.pager.load_end_for(self.me, alloc, load, value)
+    }
+
     /// Pins the cell of a loose handle of the caller's, if its value isn't in memory. If the cell's
     /// blob has no references, pins without the steps of a load, with the same result; otherwise
     /// runs a load. Returns None if it did nothing, as when the value is in memory.
@@ -116,10 +147,16 @@ impl<'a, E: Env<Node: NodeSet<E>>, S: PagableStorage<E>> Lent<'a, E, S> {
         &mut self,
         alloc: Global,
         handle: HandleNumber,
-    ) -> Result<Option<HandleNumber>, Error>
+    ) -> Result<Option<PinnedAway<E::Node>>, Error>
         requires caller { self.old.me ≡ Owner.Caller }
         ensures goes { BetweenIfHonest E.Node.NodeSet E.Env E.Hash.KeyHash S.PagableStorage self.old.pager.now
-            self.new.pager.now (λ v s s'. PinsPagedOut v s handle result s') }
+            self.new.pager.now (λ v s s'. PinsPagedOut v s handle
+            (result_map (option_map (λ (away : PinnedAway E.Node). away.handle)) result) s') }
+        ensures held { IsTrue (S.is_honest self.new.pager.now.storage) → IfOk result (λ found. IfSome found (λ away. IfSome away.read
+            (λ x. IsValueOf (pager_state S.PagableStorage self.new.pager.now) away.handle (arc_value x)))) }
+        ensures keyed { IfOk result (λ found. IfSome found (λ away. IfSome away.read (λ x. IsKeyed
+            (values_at E.Node.NodeSet E.Env E.Hash.KeyHash self.old.pager.now.environment) away.key
+            (E.Node.type_of (arc_value x)) (arc_value x)))) }
         ensures honest { IsTrue (S.is_honest self.new.pager.now.storage)
             → IsTrue (S.is_honest self.old.pager.now.storage) }
         ensures lender { self.new.pager.ghost_name ≡ self.old.pager.ghost_name }
@@ -131,26 +168,38 @@ impl<'a, E: Env<Node: NodeSet<E>>, S: PagableStorage<E>> Lent<'a, E, S> {
         };
         let (leaf, blob) = started;
         let read = read_leaf(self, alloc, blob.as_ref(), leaf.node_type);
+        let key = leaf.key;
         let Some(value) = read else {
-            let pinned = self.pin_by_load(alloc, leaf, blob)?;
-            return Ok(Some(pinned));
+            let (handle, read) = self.pin_by_load(alloc, leaf, blob)?;
+            return Ok(Some(PinnedAway { handle, key, read }));
         };
-        let pinned = self.pager.pin_leaf(alloc, leaf, value)?;
-        Ok(Some(pinned))
+        let (handle, value) = self.pager.pin_leaf(alloc, leaf, value)?;
+        Ok(Some(PinnedAway {
+            handle,
+            key,
+            read: Some(value),
+        }))
     }
 
-    // Begins a load of the cell, whose blob was fetched, and makes its steps up to its end.
+    // Begins a load of the cell, whose blob was fetched, and makes its steps up to its end. Returns
+    // the new Pinned handle, and the value if the cell has got the one that was read.
     fn pin_by_load(
         &mut self,
         alloc: Global,
         leaf: Leaf,
         blob: Arc<PagableData>,
-    ) -> Result<HandleNumber, Error>
+    ) -> Result<(HandleNumber, Option<Arc<E::Node>>), Error>
         requires caller { self.old.me ≡ Owner.Caller }
         requires leaf { IsLeaf (pager_core S.PagableStorage self.old.pager.now) Owner.Caller leaf }
         requires place { 1 ≤ room self.old.pager.now.tables.ref_counts.handles }
+        requires named { key_of E.Hash.digest (blob_of (arc_value blob)) ≡ leaf.key }
         ensures loads { BetweenIfHonest E.Node.NodeSet E.Env E.Hash.KeyHash S.PagableStorage self.old.pager.now
-            self.new.pager.now (λ v s s'. LeafLoads v s leaf (blob_of (arc_value blob)) result s') }
+            self.new.pager.now (λ v s s'. LeafLoads v s leaf (blob_of (arc_value blob)) (result_map (λ pin. pin.0) result) s') }
+        ensures held { IsTrue (S.is_honest self.new.pager.now.storage) → IfOk result (λ pin. IfSome pin.1
+            (λ x. IsValueOf (pager_state S.PagableStorage self.new.pager.now) pin.0 (arc_value x))) }
+        ensures keyed { IfOk result (λ pin. IfSome pin.1 (λ x. IsKeyed
+            (values_at E.Node.NodeSet E.Env E.Hash.KeyHash self.old.pager.now.environment) leaf.key
+            (E.Node.type_of (arc_value x)) (arc_value x))) }
         ensures honest { IsTrue (S.is_honest self.new.pager.now.storage)
             → IsTrue (S.is_honest self.old.pager.now.storage) }
         ensures lender { self.new.pager.ghost_name ≡ self.old.pager.ghost_name }
@@ -163,6 +212,15 @@ impl<'a, E: Env<Node: NodeSet<E>>, S: PagableStorage<E>> Lent<'a, E, S> {
         let reading = reading_with_root(alloc, load, key, node_type, blob);
         read_rest(self, alloc, reading)
     }
+}
+
+/// A pin of a cell whose value wasn't in memory: the new Pinned handle, the cell's key, and the value
+/// if the cell has got the one that was read.
+#[derive(Drop)]
+pub(crate) struct PinnedAway<N> {
+    pub(crate) handle: HandleNumber,
+    pub(crate) key: DataKey,
+    pub(crate) read: Option<Arc<N>>,
 }
 
 // Returns a call's result, and states the pager's invariant after the call.
@@ -195,8 +253,15 @@ impl<'a, E: Env<Node: NodeSet<E>>, S: PagableStorage<E>> Access<E> for Lent<'a, 
         self.pager.session_context()
     }
 
-    fn begin_pin(&mut self, handle: HandleNumber) -> Result<PinStart, Error> {
-        with_invariant(self.pager.begin_pin_for(self.me, handle), self.pager)
+    fn begin_pin(&mut self, handle: HandleNumber) -> Result<StartedPin<E::Node>, Error> {
+        match with_invariant(self.pager.begin_pin_for(self.me, handle), self.pager)? {
+            PinStart::Pinned(pinned, was_unpinned) => Ok(StartedPin::Pinned(
+                pinned,
+                was_unpinned,
+                self.pager.share(pinned),
+            )),
+            PinStart::Load(load, key, node_type) => Ok(StartedPin::Load(load, key, node_type)),
+        }
     }
 
     fn share(&self, handle: HandleNumber) -> Result<Option<Arc<E::Node>>, Error> {
@@ -293,9 +358,9 @@ impl<'a, E: Env<Node: NodeSet<E>>, S: PagableStorage<E>> Access<E> for Lent<'a, 
         &mut self,
         alloc: Global,
         load: LoadNumber,
-        value: E::Node,
-    ) -> Result<HandleNumber, (Error, Option<E::Node>)> {
-        let ended = self.pager.load_end_for(self.me, alloc, load, value);
+        value: Arc<E::Node>,
+    ) -> Result<EndedLoad, (Error, Option<Arc<E::Node>>)> {
+        let ended = self.end_load(alloc, load, value);
         with_invariant(ended, self.pager)
     }
 

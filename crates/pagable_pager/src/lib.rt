@@ -9,4 +9,4 @@ mod setting;
 
 pub use lent::{ArcCell, DeserializedArcCache, Lent};
 pub use pager::Pager;
-pub use pins::pin;
+pub use pins::{pin, pin_with_key};

@@ -1,22 +1,25 @@
 //! Inserts values, makes nodes of what loads have read, and ends loads of cells with a value.
 
+ghost use Rattle.pagable_load.specs.PinStart.{ended_of};
 ghost use Rattle.pagable_pager.specs.{
-  View.{BringsAtNewNode, BringsToCell, Calls, ChangesOnlyTables, pager_core, value_in, with_value},
+  View.{BringsAtNewNode, BringsToCell, Calls, ChangesOnlyTables, may_call, pager_core, pager_state, value_in, with_value},
 };
 ghost use Rattle.pagable_pager_spec.specs.{
   Basics.Error,
   Calls.{InsertCall, InsertPagedOutCall},
   Kinds.is_pinning,
   LoadCalls.{AdoptCall, EndCall},
+  Pager.ValueCall,
   Refusals.{Refused, closed_fault, earlier, load_fault},
   World.usable,
 };
 ghost use Rattle.pagable_tables.specs.{Core.{StorageView, core_alone, core_of}, EndingLoads.adopt_check_fault};
-ghost use Rattle.std.specs.Prelude.{IfErr, None, OnErr, OnOk, Option, true, ℕ, ◌≡◌};
+ghost use Rattle.std.specs.{Arc.arc_value, Prelude.{IfErr, IfOk, None, Ok, OnErr, OnOk, Option, Some, true, ℕ, ◌≡◌}};
 
 use crate::pager::Pager;
 use pagable_codec::{Env, NodeSet};
 use pagable_core::PagableStorage;
+use pagable_load::EndedLoad;
 use pagable_pager_spec::Mode;
 use pagable_pager_spec::handle_row::Owner;
 use pagable_tables::load_end::EndFailure;
@@ -53,6 +56,56 @@ pub(crate) fn put_value<N: Drop>(
     };
     values.put(node, shared);
     Ok(())
+}
+
+/// Puts a shared value into memory at this node if `comes` is true, and drops the share otherwise.
+/// Fails with OutOfMemory only, and hands the share back.
+fn put_shared<N: Drop>(
+    values: &mut NumberTable<Arc<N>>,
+    node: u64,
+    comes: bool,
+    value: Arc<N>,
+) -> Result<(), (Error, Arc<N>)>
+    ensures placed { OnOk result ((n : ℕ) → value_in values.new n
+        ≡ with_value comes node (arc_value value) (value_in values.old) n) }
+    ensures only { IfErr result (λ e. e.0 ≡ Error.OutOfMemory) }
+    ensures back { IfErr result (λ e. arc_value e.1 ≡ arc_value value) }
+    ensures kept { OnErr result ((n : ℕ) → value_in values.new n ≡ value_in values.old n) }
+{
+    if !comes {
+        return Ok(());
+    }
+    if let Err(e) = values.reserve(node) {
+        return Err((Error::from(e), value));
+    }
+    values.put(node, value);
+    Ok(())
+}
+
+/// Puts a value into memory at this node, and returns a share of it. Fails with OutOfMemory only.
+pub(crate) fn put_and_share<N: Drop>(
+    values: &mut NumberTable<Arc<N>>,
+    alloc: Global,
+    node: u64,
+    value: N,
+) -> Result<Arc<N>, Error>
+    ensures placed { OnOk result ((n : ℕ) → value_in values.new n ≡ with_value true node value (value_in values.old) n) }
+    ensures same { IfOk result (λ kept. arc_value kept ≡ value) }
+    ensures only { IfErr result (λ e. e ≡ Error.OutOfMemory) }
+    ensures kept { OnErr result ((n : ℕ) → value_in values.new n ≡ value_in values.old n) }
+{
+    let shared = match Arc::new(alloc, value) {
+        Ok(shared) => shared,
+        Err(_) => return Err(Error::OutOfMemory),
+    };
+    let kept = match shared.clone() {
+        Ok(kept) => kept,
+        Err(_) => return Err(Error::OutOfMemory),
+    };
+    match put_shared(values, node, true, shared) {
+        Ok(()) => Ok(kept),
+        Err((e, _shared)) => Err(e),
+    }
 }
 
 impl<E: Env<Node: NodeSet<E>>, S: PagableStorage<E>> Pager<E, S> {
@@ -302,26 +355,54 @@ impl<E: Env<Node: NodeSet<E>>, S: PagableStorage<E>> Pager<E, S> {
         ensures moves { BringsToCell S.PagableStorage load value self.old self.new }
         ensures storage { self.new.storage ≡ self.old.storage }
     {
-        self.load_end_for(Owner::Caller, alloc, load, value)
+        let references = match value.refs(alloc) {
+            Ok(references) => references,
+            Err(e) => return Err((self.references_error(Owner::Caller, load, e), Some(value))),
+        };
+        let node_type = value.node_type();
+        let tables = &mut self.tables;
+        let ready = match load_end::prepare_end(tables, Owner::Caller, load, node_type, &references) {
+            Ok(ready) => ready,
+            Err(EndFailure::Refused(e)) => return Err((e, Some(value))),
+            Err(EndFailure::HandleLost(e)) => {
+                let _ = self.load_drop_for(Owner::Caller, load);
+                return Err((e, None));
+            }
+        };
+        let node = ready.row.node.0;
+        if let Err((e, value)) = put_value(
+            &mut self.values,
+            alloc,
+            node,
+            ready.lacks_value,
+            value,
+        ) {
+            return Err((e, Some(value)));
+        }
+        let lists = !self.storage.has_closed();
+        let (tables, values) = (&mut self.tables, &mut self.values);
+        Ok(load_end::install(
+            tables, values, Owner::Caller, load, node_type, references, ready, lists,
+        ))
     }
 
-    /// Ends a load of `me`, as `load_end` does for the caller. An access behind a lock ends its
-    /// loads by this call: it can't name this pager's environment, so it asks in its own contract
-    /// that the value was read.
-    ///
-    /// # Errors
-    ///
-    /// - those of `load_end`.
-    pub fn load_end_for(
+    /// Ends a load of `me`, as `load_end` does for the caller, with a value that is shared already.
+    /// Returns also whether the cell has got the value. An error hands the share back where
+    /// `load_end` hands the value back.
+    pub(crate) fn load_end_for(
         &mut self,
         me: Owner,
         alloc: Global,
         load: LoadNumber,
-        value: E::Node,
-    ) -> Result<HandleNumber, (Error, Option<E::Node>)>
-        ensures step { EndCall (pager_core S.PagableStorage self.old) me load value (E.Node.type_of value)
-            (E.Node.refs_of value) result (pager_core S.PagableStorage self.new) }
-        ensures moves { BringsToCell S.PagableStorage load value self.old self.new }
+        value: Arc<E::Node>,
+    ) -> Result<EndedLoad, (Error, Option<Arc<E::Node>>)>
+        requires at_work { may_call (pager_core S.PagableStorage self.old) me ≡ true }
+        ensures step { EndCall (pager_core S.PagableStorage self.old) me load (arc_value value)
+            (E.Node.type_of (arc_value value)) (E.Node.refs_of (arc_value value)) (ended_of result)
+            (pager_core S.PagableStorage self.new) }
+        ensures moves { BringsToCell S.PagableStorage load (arc_value value) self.old self.new }
+        ensures given { IfOk result (λ ended. ended.came ≡ true
+            → ValueCall (pager_state S.PagableStorage self.new) ended.handle (Ok (Some (arc_value value)))) }
         ensures storage { self.new.storage ≡ self.old.storage }
     {
         let references = match value.refs(alloc) {
@@ -339,19 +420,15 @@ impl<E: Env<Node: NodeSet<E>>, S: PagableStorage<E>> Pager<E, S> {
             }
         };
         let node = ready.row.node.0;
-        if let Err((e, value)) = put_value(
-            &mut self.values,
-            alloc,
-            node,
-            ready.lacks_value,
-            value,
-        ) {
+        let came = ready.lacks_value;
+        if let Err((e, value)) = put_shared(&mut self.values, node, came, value) {
             return Err((e, Some(value)));
         }
         let lists = !self.storage.has_closed();
         let (tables, values) = (&mut self.tables, &mut self.values);
-        Ok(load_end::install(
+        let handle = load_end::install(
             tables, values, me, load, node_type, references, ready, lists,
-        ))
+        );
+        Ok(EndedLoad { handle, came })
     }
 }

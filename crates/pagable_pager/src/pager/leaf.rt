@@ -5,14 +5,15 @@ ghost use Rattle.pagable_core.specs.Data.{blob_of};
 ghost use Rattle.pagable_load.specs.{AccessView.values_at, Decoding.IsReadAs};
 ghost use Rattle.pagable_pager.specs.{
   Leaf.{LeafBegun, LeafDropped, LeafFetched, LeafPinned, LeafUnbegun},
-  View.{Between, BetweenIfHonest, SameNames, pager_core},
+  View.{Between, BetweenIfHonest, SameNames, pager_core, pager_state},
 };
-ghost use Rattle.pagable_pager_spec.specs.Access.{PinRun};
+ghost use Rattle.pagable_pager_spec.specs.Access.{IsValueOf, PinRun};
 ghost use Rattle.pagable_tables.specs.{HandleTable.room, Leaf.IsLeaf};
+ghost use Rattle.pagable_value_spec.specs.Blob.{key_of};
 ghost use Rattle.std.specs.{Arc.arc_value, Prelude.{Err, IfErr, IfNone, IfOk, IfSome, IsTrue, [], ◌≡◌, ◌≤◌}};
 
 use crate::pager::Pager;
-use crate::pager::insert::put_value;
+use crate::pager::insert::put_and_share;
 use pagable_codec::{Env, NodeSet};
 use pagable_core::{PagableData, PagableStorage};
 use pagable_load::{Access, Decoded, decode};
@@ -75,6 +76,7 @@ impl<E: Env<Node: NodeSet<E>>, S: PagableStorage<E>> Pager<E, S> {
         ensures leaf { IfOk result
             (λ found. IfSome found (λ f. IsLeaf (pager_core S.PagableStorage self.new) Owner.Caller f.0)) }
         ensures place { IfOk result (λ found. IfSome found (λ f. 1 ≤ room self.new.tables.ref_counts.handles)) }
+        ensures named { IfOk result (λ found. IfSome found (λ f. key_of E.Hash.digest (blob_of (arc_value f.1)) ≡ f.0.key)) }
         ensures fetched { BetweenIfHonest E.Node.NodeSet E.Env E.Hash.KeyHash S.PagableStorage self.old self.new
             (λ v s s'. IfOk result (λ found. IfSome found (λ f. LeafFetched v s f.0 (blob_of (arc_value f.1)) s'))) }
         ensures refused { BetweenIfHonest E.Node.NodeSet E.Env E.Hash.KeyHash S.PagableStorage self.old self.new
@@ -122,7 +124,7 @@ impl<E: Env<Node: NodeSet<E>>, S: PagableStorage<E>> Pager<E, S> {
         }
     }
 
-    /// Gives the cell this value and pins it; returns the Pinned handle.
+    /// Gives the cell this value and pins it; returns the Pinned handle and the shared value.
     ///
     /// # Errors
     ///
@@ -132,21 +134,26 @@ impl<E: Env<Node: NodeSet<E>>, S: PagableStorage<E>> Pager<E, S> {
         alloc: Global,
         leaf: Leaf,
         value: E::Node,
-    ) -> Result<HandleNumber, Error>
+    ) -> Result<(HandleNumber, Arc<E::Node>), Error>
         requires leaf { IsLeaf (pager_core S.PagableStorage self.old) Owner.Caller leaf }
         requires place { 1 ≤ room self.old.tables.ref_counts.handles }
         requires typed { E.Node.type_of value ≡ leaf.node_type }
         requires bare { E.Node.refs_of value ≡ [] }
         ensures pinned { Between E.Node.NodeSet E.Env E.Hash.KeyHash S.PagableStorage self.old self.new
-            (λ v s s'. IfOk result (λ k. LeafPinned v s leaf value k s')) }
+            (λ v s s'. IfOk result (λ pin. LeafPinned v s leaf value pin.0 s')) }
+        ensures held { IfOk result (λ pin. IsValueOf (pager_state S.PagableStorage self.new) pin.0 value) }
+        ensures value { IfOk result (λ pin. arc_value pin.1 ≡ value) }
         ensures dropped { Between E.Node.NodeSet E.Env E.Hash.KeyHash S.PagableStorage self.old self.new
             (λ v s s'. IfErr result (λ e. (e ≡ Error.OutOfMemory) × LeafDropped v s leaf s')) }
         ensures storage { self.new.storage ≡ self.old.storage }
         ensures environment { self.new.environment ≡ self.old.environment }
     {
-        match put_value(&mut self.values, alloc, leaf.row.node.0, true, value) {
-            Ok(()) => Ok(leaf::pin_loaded_leaf(&mut self.tables, Owner::Caller, leaf)),
-            Err((e, _value)) => {
+        match put_and_share(&mut self.values, alloc, leaf.row.node.0, value) {
+            Ok(kept) => {
+                let pinned = leaf::pin_loaded_leaf(&mut self.tables, Owner::Caller, leaf);
+                Ok((pinned, kept))
+            }
+            Err(e) => {
                 leaf::leave_unloaded(&mut self.tables, Owner::Caller, leaf);
                 Err(e)
             }
