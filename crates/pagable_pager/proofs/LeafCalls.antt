@@ -1,5 +1,5 @@
 -- Cells that are pinned without a load's row: the load with the same effect keeps the pager's invariant as it begins, is given up, or ends.
-use Rattle.pagable_pager.proofs.Invariant.{here-in, here-told, in-step, whole-over}
+use Rattle.pagable_pager.proofs.{HeldByEnds.ends-held, Invariant.{here-in, here-told, in-step, whole-over}}
 use Rattle.pagable_pager.specs.{
   Leaf.{LeafBegun, LeafDropped, LeafPinned},
   View.{IsPager, PagerView, Storages, ValuesByNode, pager_core, pager_state, storage_view, value_in, with_value},
@@ -9,7 +9,7 @@ use Rattle.pagable_pager_spec.specs.{
   Calls.row_of,
   Kinds.{is_pin, pins},
   LoadCalls.{BeginCall, Installs, MayEnd},
-  Pager.{IsCellOf, IsPagerWhole, PagerState},
+  Pager.{IsCellOf, IsPagerWhole, PagerState, ValueCall},
   World.{Core, Values, is_here, of_cell},
   declared.{handle_row.Owner.Owner, mode.Mode.Mode, pinning.Beginning.Beginning},
 }
@@ -169,3 +169,9 @@ module _ {N S E H K V : Type 0} {tells : Storages S E N H K V} {says : E → Val
         whole = pinned-so.state;
       };
     }
+
+    pub pinned-held : ValueCall (pager_state tells after) k (Ok (Some x))
+    unfolding leaf-ends pinned-told
+    pinned-held =
+        let none : value_in p.values leaf.row.node.0 ≡ None = (let a = is.state.valued leaf.row.node.0 in let b = found.away in grind (arith, nat_tests)) in
+        ends-held Owner.Caller (λ n is. absurd (cc)) l x (v.node_type x) (v.references x) k mid-whole pinned-so.state pinned-told.ends.step pinned-told.ends.moves none

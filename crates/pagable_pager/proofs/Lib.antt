@@ -1,4 +1,5 @@
 pub mod Invariant
+pub mod HeldByEnds
 pub mod NewValues
 pub mod LentCalls
 pub mod LeafCalls

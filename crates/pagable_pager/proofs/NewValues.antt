@@ -1,14 +1,14 @@
 -- Bringing a value keeps the pager's invariant: with a new node, as what a load has read, or to a load's cell.
-use Rattle.pagable_pager.proofs.Invariant.{caller-free, here-in, here-told, in-step, left-map, some-map}
+use Rattle.pagable_pager.proofs.{HeldByEnds.{ends-held, no-value}, Invariant.{caller-free, here-in, here-told, in-step, left-map, some-map}}
 use Rattle.pagable_pager.specs.{
-  View.{BringsAtNewNode, BringsToCell, IsPager, PagerView, Storages, ValuesByNode, pager_core, pager_state, storage_view, value_in, with_value},
+  View.{BringsAtNewNode, BringsToCell, IsPager, PagerView, Storages, ValuesByNode, may_call, pager_core, pager_state, storage_view, value_in, with_value},
 }
 use Rattle.pagable_pager_spec.specs.{
   Basics.{Error, if_there, updated},
   Calls.{InsertCall, IsNext, insert_fault},
   Kinds.is_pinning,
   LoadCalls.{AdoptCall, Adopts, DropCall, EndCall, EndRefused, Installs, MayEnd, adopt_fault, adopted, end_fault, first_key},
-  Pager.IsCellOf,
+  Pager.{IsCellOf, ValueCall},
   Refusals.{Refused, load_fault, references_fault},
   World.{Alike, Core, OpenLoad, Values, greatest, is_here, usable},
   declared.{handle_row.Owner.Owner, mode.Mode.Mode},
@@ -255,6 +255,13 @@ module _ {N S E H K V : Type 0} {tells : Storages S E N H K V} {says : E → Val
   pub ended-told : EndCall w me l x ((says p.environment).node_type x) ((says p.environment).references x) (Ok k) w'
       × BringsToCell tells l x p p'
   ended-told = (record { installs = (r.row.node, r.row.number, may, was); refused = tt }, record { each = comes; environment = refl })
+
+  -- where the cell had no value, the new handle holds this one
+  pub ended-held : may_call w me ≡ true → r.lacks_value ≡ true → ValueCall (pager_state tells p') k (Ok (Some x))
+  unfolding ended-told
+  ended-held may_do lacks =
+      let none : value_in p.values r.row.node.0 ≡ None = (let a = is.state.valued r.row.node.0 in let b = away true lacks in grind (arith, nat_tests)) in
+      ends-held me (no-value w me may_do) l x _ _ k is.state ended-so.state ended-told.0 ended-told.1 none
 
 -- a load that doesn't end with the value stays open; or it is closed, where its end is in vain
 module _ {N : Type 0} {w w' : Core} {me : Owner} {l : LoadNumber} {t u : ℕ} {qs refs : List ArcRef} {e : Error} (x : N) (typed : t ≡ u)

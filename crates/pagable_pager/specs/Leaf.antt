@@ -1,7 +1,7 @@
 -- Cells that are pinned without a load's row, and the loads that have the same effect.
 use Rattle.pagable_load.specs.{
   AccessView.MakesCallBringing,
-  LoadSteps.RunsLoad,
+  Frames.{IsLoadOf, reading_of},
   PinStart.{PinsWithLoad, is_unpinned_at},
   declared.reading.Reading.Reading as Own,
 }
@@ -71,8 +71,8 @@ rooted_reading l key t blob = record { load = l; node_type = t; frames = root_fr
 -- the load runs to its end, with a pin or an error
 pub record EndsCellLoad {N E : Type 0} (v : Values N) (me : Owner) (own : Own) (s : PagerState N E)
     (r : Result HandleNumber Error) (t : PagerState N E) : Type 0 where
-  pub pinned : IfOk r (λ k. RunsLoad v me own s (LoadAnswer.Pinned k) t)
-  pub refused : IfErr r (λ e. RunsLoad v me own s (LoadAnswer.Refused e) t)
+  pub pinned : IfOk r (λ k. IsLoadOf s.core me own → LoadRun v me (reading_of own) s (LoadAnswer.Pinned k) t)
+  pub refused : IfErr r (λ e. IsLoadOf s.core me own → LoadRun v me (reading_of own) s (LoadAnswer.Refused e) t)
 
 -- A load of the cell began, got its root's blob, and ended; or memory for it ran out.
 pub record LeafLoads {N E : Type 0} (v : Values N) (s : PagerState N E) (leaf : Leaf) (blob : Blob)

@@ -3,7 +3,11 @@
 #![tactic(auto, using(crate::proofs::LentCalls::lending))]
 
 ghost use Rattle.pagable_core.specs.Data.{blob_of};
-ghost use Rattle.pagable_load.specs.{AccessView.values_at, Keyed.IsKeyed, PinStart.ended_of};
+ghost use Rattle.pagable_load.specs.{
+  AccessView.{Acts, IfKnown, IsReadBy, MakesCallBringing, values_at},
+  Keyed.IsKeyed,
+  PinStart.ended_of,
+};
 ghost use Rattle.pagable_pager.specs.{
   Leaf.{LeafLoads, PinsPagedOut},
   View.{AddsNoValue, BetweenIfHonest, BringsToCell, Calls, ChangesOnlyTables, may_call, pager_core, pager_state},
@@ -12,12 +16,12 @@ ghost use Rattle.pagable_pager_spec.specs.{
   Access.IsValueOf,
   Calls.{ClearCall, OfferCall, RecallCall},
   LoadCalls.EndCall,
-  Pager.{IsPagerWhole, ValueCall},
+  Pager.{IsCellOf, IsPagerWhole, ValueCall},
   World.result_map,
 };
 ghost use Rattle.pagable_tables.specs.{HandleTable.room, Leaf.IsLeaf, Soundness.is_sound};
 ghost use Rattle.pagable_value_spec.specs.Blob.{key_of};
-ghost use Rattle.std.specs.{Arc.arc_value, Option.option_map, Prelude.{IfErr, IfOk, IfSome, IsTrue, Ok, Some, true, ◌≡◌, ◌≤◌}};
+ghost use Rattle.std.specs.{Arc.arc_value, Option.option_map, Prelude.{IfErr, IfOk, IfSome, IsTrue, None, Ok, Some, if◌then◌else◌, true, ◌≡◌, ◌≤◌}};
 
 use crate::pager::Pager;
 use crate::pager::leaf::read_leaf;
@@ -359,7 +363,19 @@ impl<'a, E: Env<Node: NodeSet<E>>, S: PagableStorage<E>> Access<E> for Lent<'a, 
         alloc: Global,
         load: LoadNumber,
         value: Arc<E::Node>,
-    ) -> Result<EndedLoad, (Error, Option<Arc<E::Node>>)> {
+    ) -> Result<EndedLoad, (Error, Option<Arc<E::Node>>)>
+        requires { IsReadBy (values_at E.Node.NodeSet E.Env E.Hash.KeyHash self.old.pager.now.environment) load
+            (arc_value value) }
+        ensures acts { Acts (λ l. if S.is_honest l.pager.now.storage then Some (pager_state S.PagableStorage l.pager.now)
+            else None) (λ l. record { me = l.me; environment = l.pager.now.environment; lender = l.pager.ghost_name })
+            self.old self.new (λ a s t. MakesCallBringing
+            (values_at E.Node.NodeSet E.Env E.Hash.KeyHash a.environment)
+            (λ w'. EndCall s.core a.me load (arc_value value) (E.Node.type_of (arc_value value))
+            (E.Node.refs_of (arc_value value)) (ended_of result) w')
+            (λ n x. (x ≡ arc_value value) × IsCellOf s.core load n) s t) }
+        ensures given { IfOk result (λ ended. ended.came ≡ true → IfKnown (if S.is_honest self.new.pager.now.storage
+            then Some (pager_state S.PagableStorage self.new.pager.now) else None) (λ s. ValueCall s ended.handle (Ok (Some (arc_value value))))) }
+    {
         let ended = self.end_load(alloc, load, value);
         with_invariant(ended, self.pager)
     }
