@@ -4,9 +4,10 @@ use Rattle.pagable_load.proofs.{LoadSteps.none_comes, PinsAndReads.goes_open}
 use Rattle.pagable_load.specs.{
   Frames.{IsLoadOf, frames_of, reading_of},
   LoadSteps.{IsSameLoad, TriesStep},
+  Outcomes.{answer_of as answers},
   PinStart.Shares,
   WorkerCalls.{BeginsAt, TakesReference},
-  declared.{access.PinnedOrLoading.PinnedOrLoading, reading.Reading.Reading as Own},
+  declared.{access.PinnedOrLoading.PinnedOrLoading, reading.{LoadOutcome.LoadOutcome, Reading.Reading as Own}},
 }
 use Rattle.pagable_pageout.proofs.Words.{
   Action,
@@ -90,7 +91,7 @@ use Rattle.pagable_pager_spec.specs.{
   Pager.{HandlesAreWhole, HoldsItsNodes, Moves, TodoBrings, TookWrites, ValueCall},
   Workers.{ClaimStep, Finds, PinsAtOnce, Turns, WorkDoes, WorkerState, answer_after, claim_fault, fresh, is_counted_claim, open_node, with_wait},
   World.{Alike, Cell, Core, Frame, OpenLoad, Reading, Root, of_cell, of_key, one_more, result_map, to_load, to_write},
-  declared.events.{LoadAnswer.LoadAnswer, PinStep.PinStep},
+  declared.events.PinStep.PinStep,
 }
 use Rattle.pagable_theorems.proofs.{
   Chains.{claimed-stands, clone-stands, may-claim},
@@ -99,7 +100,7 @@ use Rattle.pagable_theorems.proofs.{
 }
 use Rattle.pagable_theorems.specs.TreeSteps.{Change, StandsAt}
 use Rattle.std.proofs.Common.{◌==◌}
-use Rattle.std.specs.{Prelude.{IfErr, IfOk}, declared.{alloc.Global.Global, sync.Arc.Arc}}
+use Rattle.std.specs.{Option.option_map, Prelude.{IfErr, IfOk}, declared.{alloc.Global.Global, sync.Arc.Arc}}
 
 pub alike : (w : Core) → Alike w w
 alike w = grind basics
@@ -302,11 +303,11 @@ none-back (x ∷ below) = refl
 
 module _ {X XN XH XK XV : Type 0} {g : Environments X XN XH XK XV} {gh : Hashes XH} {go : Orders XK} {gq : Equalities XK} {gp : PartialOrders XK}
     {gn : Nodes XN X XN XH XK XV} {N E : Type 0} {v : Values N} {me : Owner} {n : ℕ} {r : ArcRef} {place : ℕ} {through : HandleNumber} {own : Own} where
-  stepped : {s t : PagerState N E} {answer : Option (LoadAnswer N)} {frames : List Frame}
-      → Fits {g = g} {gh = gh} {go = go} {gq = gq} {gp = gp} {gn = gn} v me n (Task.Load r place through own) s → TriesStep v me own s (Ok answer) frames t
-      → ReadingStep v (owner_worker n) (reading_of own) s answer frames t
-  stepped {s} {t} {answer} {frames} f steps = subst (λ o. IsLoadOf s.core o own → ReadingStep v o (reading_of own) s answer frames t) f.me_is steps.does
-      f.task_fits.1.is
+  stepped : {s t : PagerState N E} {outcome : Option (LoadOutcome N)} {frames : List Frame}
+      → Fits {g = g} {gh = gh} {go = go} {gq = gq} {gp = gp} {gn = gn} v me n (Task.Load r place through own) s → TriesStep v me own s (Ok outcome) frames t
+      → ReadingStep v (owner_worker n) (reading_of own) s (option_map answers outcome) frames t
+  stepped {s} {t} {outcome} {frames} f steps =
+      subst (λ o. IsLoadOf s.core o own → ReadingStep v o (reading_of own) s (option_map answers outcome) frames t) f.me_is steps.does f.task_fits.1.is
 
 -- a step of the worker that leaves the table, from what it does
 module _ {X XN XH XK XV : Type 0} {g : Environments X XN XH XK XV} {gh : Hashes XH} {go : Orders XK} {gq : Equalities XK} {gp : PartialOrders XK}
@@ -418,7 +419,8 @@ module _ {X XN XH XK XV : Type 0} {g : Environments X XN XH XK XV} {gh : Hashes 
             ));
       }
 
-      pub load-pins : {k : HandleNumber} {frames : List Frame} (s t : PagerState N E) → TriesStep v me own s (Ok (Some (LoadAnswer.Pinned k))) frames t
+      pub load-pins : {k : HandleNumber} {read : Option (Arc N Global)} {frames : List Frame} (s t : PagerState N E)
+          → TriesStep v me own s (Ok (Some (LoadOutcome.Pinned k read))) frames t
           → PerformsTask {g = g} {gh = gh} {go = go} {gq = gq} {gp = gp} {gn = gn} v me n shelf (Task.Load r place through own) below shelf
           (record { action = Action.Pin (identity_of r) (Ok (PinStep.Pinned k)); turn = Turn.Goes (Task.Write r place through k); counted = false })
           (to_write r place through ∷ below) s t
@@ -433,14 +435,14 @@ module _ {X XN XH XK XV : Type 0} {g : Environments X XN XH XK XV} {gh : Hashes 
 
       pub load-fails : {e : Error} {frames : List Frame} {task : Task X XN XH XK XV g gh go gq gp gn} {after : List Todo} → NeedsNoPager task → after
           ≡ fails (was_refused e) (back_of (Some r.handle) below)
-          → (s t : PagerState N E) → TriesStep v me own s (Ok (Some (LoadAnswer.Refused e))) frames t
+          → (s t : PagerState N E) → TriesStep v me own s (Ok (Some (LoadOutcome.Refused e))) frames t
           → PerformsTask v me n shelf (Task.Load r place through own) below shelf
           (record { action = Action.Pin (identity_of r) (Err e); turn = Turn.Goes task; counted = false }) after s t
       load-fails {task = task} plain-task is s t call = grind (basics, stepped, same-shelf, plain-fits)
 
       -- a load of a cell reads out nothing
       pub load-reads-none : (x : N) (frames : List Frame) (moved : StepResult X XN XH XK XV g gh go gq gp gn) (after : List Todo) → moved.counted ≡ false
-          → (s t : PagerState N E) → TriesStep v me own s (Ok (Some (LoadAnswer.Read x))) frames t
+          → (s t : PagerState N E) → TriesStep v me own s (Ok (Some (LoadOutcome.Read x))) frames t
           → PerformsTask v me n shelf (Task.Load r place through own) below shelf moved after s t
       load-reads-none x frames moved after uncounted s t call = grind (basics, stepped, same_some)
 

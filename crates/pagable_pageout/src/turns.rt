@@ -43,8 +43,8 @@ use crate::tasks::{
 use crate::{ClaimResult, Claims, PageOutError, SlotResult};
 use pagable_codec::{Env, NodeSet};
 use pagable_core::{PagableData, SerializedData, SerializerForPaging, SessionOf};
-use pagable_load::{PinnedOrLoading, Reading, WorkerAccess, WorkerNode};
-use pagable_pager_spec::{Action, Claim, LoadAnswer, PinStep, WorkerAnswer};
+use pagable_load::{LoadOutcome, PinnedOrLoading, Reading, WorkerAccess, WorkerNode};
+use pagable_pager_spec::{Action, Claim, PinStep, WorkerAnswer};
 use pagable_value_spec::{ArcRef, DataKey, Error, HandleNumber, Identity, WorkerNumber};
 use std::alloc::Global;
 use std::marker::PhantomData;
@@ -212,17 +212,17 @@ pub fn load<E: Env<Node: NodeSet<E>>, A: WorkerAccess<E>>(
             turn: Turn::Goes(Task::Load(reference, place, through, reading)),
             counted: false,
         },
-        Some(LoadAnswer::Pinned(pin)) => StepResult {
+        Some(LoadOutcome::Pinned(pin, _)) => StepResult {
             action: Action::Pin(identity, Ok(PinStep::Pinned(pin))),
             turn: Turn::Goes(Task::Write(reference, place, through, pin)),
             counted: false,
         },
-        Some(LoadAnswer::Refused(e)) => StepResult {
+        Some(LoadOutcome::Refused(e)) => StepResult {
             turn: Turn::Goes(fail_with(path, &e, Some(reference.handle))),
             action: Action::Pin(identity, Err(e)),
             counted: false,
         },
-        Some(LoadAnswer::Read(_value)) => StepResult {
+        Some(LoadOutcome::Read(_value)) => StepResult {
             action: Action::Pin(identity, Err(Error::WrongMode)),
             turn: Turn::Goes(fail_with(path, &Error::WrongMode, Some(reference.handle))),
             counted: false,
