@@ -6,10 +6,10 @@ ghost use Rattle.pagable_calls.specs.{
   Driving.{Drives, Forgets, HeldFitsPager, IsPrepared, Serves, SetsOne, StepsLoad, kept_at, plain_found, rest_after},
 };
 ghost use Rattle.pagable_core.specs.Data.{blob_of};
-ghost use Rattle.pagable_load.specs.AccessView.{values_at};
+ghost use Rattle.pagable_load.specs.{AccessView.values_at, Outcomes.answer_of};
 ghost use Rattle.pagable_pager.specs.View.{BetweenIfHonest, from_cache_or_store, pager_core};
 ghost use Rattle.pagable_pager_spec.specs.{Events.given_of, World.result_map, declared.handle_row.Owner.Owner};
-ghost use Rattle.std.specs.{Arc.arc_value, Prelude.{IfErr, IsTrue, None, OnOk, false, is_none, true, ◌*◌, ◌≡◌}};
+ghost use Rattle.std.specs.{Arc.arc_value, Option.option_map, Prelude.{IfErr, IsTrue, None, OnOk, false, is_none, true, ◌*◌, ◌≡◌}};
 
 use crate::workers::{
     LoadsAndWorkers, begin_entry_worker, begin_item_worker, make_table, put, step_worker,
@@ -18,7 +18,7 @@ use either::Either;
 use indexmap::IndexMap;
 use pagable_codec::{Env, NodeSet};
 use pagable_core::{PagableData, PagableStorage, SerializedData};
-use pagable_load::Reading;
+use pagable_load::{LoadOutcome, Reading};
 use pagable_pager::{Lent, Pager};
 use pagable_pager_spec::{Beginning, Call, Event, EventReply, Found, LoadAnswer, LoadReply, Reply};
 use pagable_value_spec::{DataKey, Error, HandleNumber, LoadNumber};
@@ -140,6 +140,18 @@ fn keep_reading(
     Ok(())
 }
 
+// Returns how a load has ended, as an event's reply tells it: a pin without its value.
+fn answer_to<N: Drop>(outcome: Option<LoadOutcome<N>>) -> Option<LoadAnswer<N>>
+    ensures { result ≡ option_map answer_of outcome }
+{
+    match outcome {
+        Some(LoadOutcome::Pinned(pinned, _read)) => Some(LoadAnswer::Pinned(pinned)),
+        Some(LoadOutcome::Read(value)) => Some(LoadAnswer::Read(value)),
+        Some(LoadOutcome::Refused(e)) => Some(LoadAnswer::Refused(e)),
+        None => None,
+    }
+}
+
 // Makes one step of a load over a lent pager. (The borrow checker accepts `lent` where a function
 // asks for a `Lent`, and not where it asks for any access.)
 fn step_lent<'a, E: Env<Node: NodeSet<E>>, S: PagableStorage<E>>(
@@ -153,7 +165,7 @@ fn step_lent<'a, E: Env<Node: NodeSet<E>>, S: PagableStorage<E>>(
     ensures honest { IsTrue (S.is_honest lent.new.pager.now.storage) → IsTrue (S.is_honest lent.old.pager.now.storage) }
     ensures lender { lent.new.pager.ghost_name ≡ lent.old.pager.ghost_name }
 {
-    let ended = own.step(lent, alloc);
+    let ended = answer_to(own.step(lent, alloc));
     let steps = own.steps;
     LoadReply { ended, steps }
 }

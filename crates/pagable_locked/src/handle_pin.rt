@@ -3,8 +3,9 @@
 
 ghost use Rattle.futures.specs.{Poll.{IfReady, OnPending}, Task.{IsArmed, Keeps}};
 ghost use Rattle.pagable_core.specs.Data.{blob_of};
+ghost use Rattle.pagable_load.specs.{AccessView.values_at, Keyed.IsPinKeyed};
 ghost use Rattle.pagable_value_spec.specs.Blob.{key_of};
-ghost use Rattle.std.specs.{Arc.arc_value, Prelude.{Err, IfOk, ◌≡◌}};
+ghost use Rattle.std.specs.{Arc.arc_value, Prelude.{Err, IfOk, None, ◌≡◌}};
 
 use crate::storage_handle::PagableStorageHandle;
 use futures::task::{Context, Poll};
@@ -48,7 +49,7 @@ impl<E: Env<Node: NodeSet<E>>, S: PagableStorage<E>> HandlePin<E, S> {
     }
 
     // Begins a load of the cell if its value isn't in memory; else pins it.
-    fn begin<R: Wait>(&self, rt: &R, alloc: Global) -> Result<BegunPin, Error> {
+    fn begin<R: Wait>(&self, rt: &R, alloc: Global) -> Result<BegunPin<E::Node>, Error> {
         let mut access = self.storage.access(rt);
         begin_polled_pin(&mut access, alloc, self.handle)
     }
@@ -68,6 +69,7 @@ impl<E: Env<Node: NodeSet<E>>, S: PagableStorage<E>> HandlePin<E, S> {
     }
 
     // Reads the cell's value from the cell's blob, and pins the cell.
+    #[tactic(auto, using(pagable_load::proofs::Keyed::own_type))]
     fn read<R: Wait>(
         &self,
         rt: &R,
@@ -76,25 +78,41 @@ impl<E: Env<Node: NodeSet<E>>, S: PagableStorage<E>> HandlePin<E, S> {
         blob: Arc<PagableData>,
     ) -> Result<NewPin<E::Node>, Error>
         requires named { key_of E.Hash.digest (blob_of (arc_value blob)) ≡ reading.reading.key }
+        ensures keyed { IfOk result (λ pin. IsPinKeyed (values_at E.Node.NodeSet E.Env E.Hash.KeyHash
+            (arc_value (arc_value self.now.storage.inner).setting).env) pin.read_from (arc_value pin.value)) }
     {
         let mut access = self.storage.access(rt);
-        let pinned = reading.read(&mut access, alloc, blob)?;
-        self.share(rt, pinned, true)
+        let key = reading.key();
+        let (pinned, read) = reading.read(&mut access, alloc, blob)?;
+        match read {
+            Some(value) => Ok(NewPin {
+                handle: pinned,
+                value,
+                was_unpinned: true,
+                read_from: Some(key),
+            }),
+            None => self.finish(rt, pinned, true, access.share(pinned)),
+        }
     }
 
-    // Returns a new pin with its value, or undoes the pin if the value can't be shared.
-    fn share<R: Wait>(
+    // Returns a new pin of a cell that had its value, or undoes the pin if the value can't be
+    // shared.
+    fn finish<R: Wait>(
         &self,
         rt: &R,
         pinned: HandleNumber,
         was_unpinned: bool,
-    ) -> Result<NewPin<E::Node>, Error> {
-        let refused = match self.storage.access(rt).share(pinned) {
+        shared: Result<Option<Arc<E::Node>>, Error>,
+    ) -> Result<NewPin<E::Node>, Error>
+        ensures { IfOk result (λ pin. pin.read_from ≡ None) }
+    {
+        let refused = match shared {
             Ok(Some(value)) => {
                 return Ok(NewPin {
                     handle: pinned,
                     value,
                     was_unpinned,
+                    read_from: None,
                 });
             }
             Ok(None) => Error::NoSuchHandle,
@@ -120,9 +138,14 @@ impl<E: Env<Node: NodeSet<E>>, S: PagableStorage<E>> HandlePin<E, S> {
 }
 
 impl<E: Env<Node: NodeSet<E>>, S: PagableStorage<E>> Polls<E> for HandlePin<E, S> {
+    ghost use Rattle.pagable_load.specs.{AccessView.values_at, Keyed.IsKeyed};
     ghost use Rattle.pagable_locked.specs.Stages.{stage_of};
+    ghost use Rattle.std.specs.Arc.{arc_value};
 
     ghost stage = { λ p. stage_of p.state };
+
+    ghost reads = { λ p key x. IsKeyed (values_at E.Node.NodeSet E.Env E.Hash.KeyHash
+        (arc_value (arc_value p.storage.inner).setting).env) key (E.Node.type_of x) x };
 
     fn poll<R: Wait>(
         &mut self,
@@ -133,8 +156,8 @@ impl<E: Env<Node: NodeSet<E>>, S: PagableStorage<E>> Polls<E> for HandlePin<E, S
         let reading = match replace(&mut self.state, PinState::Ended) {
             PinState::Begin => match self.begin(rt, alloc) {
                 Ok(BegunPin::Reading(reading)) => reading,
-                Ok(BegunPin::Pinned(pinned, was_unpinned)) => {
-                    return Poll::Ready(self.share(rt, pinned, was_unpinned));
+                Ok(BegunPin::Pinned(pinned, was_unpinned, shared)) => {
+                    return Poll::Ready(self.finish(rt, pinned, was_unpinned, shared));
                 }
                 Err(e) => return Poll::Ready(Err(e)),
             },

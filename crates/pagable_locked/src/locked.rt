@@ -1,11 +1,20 @@
 //! Access to a pager behind a lock, for a caller or a page-out worker. Between any two of its calls
 //! other threads may make theirs, so contracts tell nothing of the pager's state.
 
+ghost use Rattle.pagable_load.specs.{
+  AccessView.{Acts, IfKnown, IsReadBy, MakesCallBringing, values_at},
+  PinStart.ended_of,
+};
+ghost use Rattle.pagable_pager_spec.specs.{LoadCalls.EndCall, Pager.{IsCellOf, ValueCall}};
+ghost use Rattle.std.specs.{Arc.arc_value, Prelude.{IfOk, None, Ok, Some, true, ◌≡◌}};
+
 use crate::lock::lock_briefly;
 use either::Either;
 use pagable_codec::{Env, NodeSet};
 use pagable_core::{PagableData, PagableStorage, SessionOf, Setting};
-use pagable_load::{Access, PinStart, PinnedOrLoading, TakenValue, WorkerAccess, WorkerNode};
+use pagable_load::{
+    Access, EndedLoad, PinnedOrLoading, StartedPin, TakenValue, WorkerAccess, WorkerNode,
+};
 use pagable_pager::{Lent, Pager};
 use pagable_pager_spec::handle_row::Owner;
 use pagable_value_spec::{
@@ -67,7 +76,7 @@ impl<'a, R: Wait, E: Env<Node: NodeSet<E>>, S: PagableStorage<E>> Access<E>
         &self.setting.session
     }
 
-    fn begin_pin(&mut self, handle: HandleNumber) -> Result<PinStart, Error> {
+    fn begin_pin(&mut self, handle: HandleNumber) -> Result<StartedPin<E::Node>, Error> {
         let mut pager = lock_briefly(self.pager, self.rt);
         Lent::for_owner(&mut *pager, self.me)?.begin_pin(handle)
     }
@@ -161,13 +170,24 @@ impl<'a, R: Wait, E: Env<Node: NodeSet<E>>, S: PagableStorage<E>> Access<E>
         &mut self,
         alloc: Global,
         load: LoadNumber,
-        value: E::Node,
-    ) -> Result<HandleNumber, (Error, Option<E::Node>)> {
+        value: Arc<E::Node>,
+    ) -> Result<EndedLoad, (Error, Option<Arc<E::Node>>)>
+        requires { IsReadBy (values_at E.Node.NodeSet E.Env E.Hash.KeyHash self.old.setting.now.env) load
+            (arc_value value) }
+        ensures acts { Acts (λ l. None) (λ l. record { me = l.me; environment = l.setting.now.env; lender = 0 })
+            self.old self.new (λ a s t. MakesCallBringing
+            (values_at E.Node.NodeSet E.Env E.Hash.KeyHash a.environment)
+            (λ w'. EndCall s.core a.me load (arc_value value) (E.Node.type_of (arc_value value))
+            (E.Node.refs_of (arc_value value)) (ended_of result) w')
+            (λ n x. (x ≡ arc_value value) × IsCellOf s.core load n) s t) }
+        ensures given { IfOk result (λ ended. ended.came ≡ true → IfKnown None
+            (λ s. ValueCall s ended.handle (Ok (Some (arc_value value))))) }
+    {
         let mut pager = lock_briefly(self.pager, self.rt);
-        if let Err(e) = Lent::for_owner(&mut *pager, self.me) {
-            return Err((e, Some(value)));
+        match Lent::for_owner(&mut *pager, self.me) {
+            Ok(mut lent) => lent.end_load(alloc, load, value),
+            Err(e) => Err((e, Some(value))),
         }
-        pager.load_end_for(self.me, alloc, load, value)
     }
 
     fn load_take(&mut self, load: LoadNumber, named: &[HandleNumber]) -> Result<(), Error> {

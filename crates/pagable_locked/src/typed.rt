@@ -14,7 +14,9 @@ use std::sync::Wait;
 
 impl<E: Env<Node: NodeSet<E>>, S: PagableStorage<E>> Storage<E> for PagableStorageHandle<E, S> {
     ghost use Rattle.std.specs.Prelude.{IfErr, None};
+    ghost use Rattle.pagable_load.specs.{AccessView.values_at, Keyed.IsKeyed};
     ghost use Rattle.pagable_locked.specs.Refusals.{IsOfMode, IsOfQuery, IsOfRelease, IsOfUnpin};
+    ghost use Rattle.std.specs.Arc.{arc_value};
 
     type Pin = HandlePin<E, S>;
 
@@ -33,6 +35,9 @@ impl<E: Env<Node: NodeSet<E>>, S: PagableStorage<E>> Storage<E> for PagableStora
     ghost set_key_answers = { λ s h k r. IfErr r IsOfRelease };
 
     ghost paged_out_answers = { λ s h r. IfErr r IsOfQuery };
+
+    ghost reads = { λ s key x. IsKeyed (values_at E.Node.NodeSet E.Env E.Hash.KeyHash
+        (arc_value (arc_value s.inner).setting).env) key (E.Node.type_of x) x };
 
     fn insert<R: Wait>(
         &self,
@@ -78,11 +83,12 @@ impl<E: Env<Node: NodeSet<E>>, S: PagableStorage<E>> Storage<E> for PagableStora
         handle: HandleNumber,
     ) -> Result<NewPin<E::Node>, Error> {
         let mut access = self.access(rt);
-        let (handle, value, was_unpinned) = pin_with_state_over(&mut access, alloc, handle)?;
+        let pin = pin_with_state_over(&mut access, alloc, handle)?;
         Ok(NewPin {
-            handle,
-            value,
-            was_unpinned,
+            handle: pin.handle,
+            value: pin.value,
+            was_unpinned: pin.was_unpinned,
+            read_from: pin.read_from,
         })
     }
 
