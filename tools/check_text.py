@@ -74,7 +74,7 @@ INSERTS = {"new_loose", "new_shared", "new_pinned"}
 # The calls of functions that have another name than their call.
 OTHER_NAMES = {
     "insert": INSERTS, "clone_handle": {"clone"}, "fetch_data_blocking": {"fetch"}, "poll_blob": {"poll_fetch"},
-    "fetch_arc_or_data_blocking": {"cache_get"}, "store_data": {"store_keyed"}, "load_end": {"load_end_for"},
+    "fetch_arc_or_data_blocking": {"cache_get"}, "store_data": {"store_keyed"}, "load_end": {"end_load"},
     "pending_paging_count": {"pending"},
 }
 GUARD = re.compile(r"(?<![.\w])pager\b(?!\s*\.)")
