@@ -130,10 +130,7 @@ impl Reading {
             (frames_of self.old.top self.old.below.items) answer (frames_of self.new.top self.new.below.items)) }
         ensures same { IsSameLoad self.old self.new self.old.steps }
     {
-        let read = match Arc::new(alloc, value) {
-            Ok(read) => read,
-            Err(_) => return Err(Error::OutOfMemory),
-        };
+        let read = Arc::new(alloc, value)?;
         let kept = read.clone()?;
         match access.load_end(alloc, self.load, read) {
             Ok(ended) => {

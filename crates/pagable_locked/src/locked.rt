@@ -5,7 +5,7 @@ ghost use Rattle.pagable_load.specs.{
   AccessView.{Acts, IfKnown, IsReadBy, MakesCallBringing, values_at},
   PinStart.ended_of,
 };
-ghost use Rattle.pagable_pager_spec.specs.{LoadCalls.EndCall, Pager.{IsCellOf, ValueCall}};
+ghost use Rattle.pagable_pager_spec.specs.{LoadCalls.EndCall, Pager.{IsCellOf, PagerState, ValueCall}};
 ghost use Rattle.std.specs.{Arc.arc_value, Prelude.{IfOk, None, Ok, Some, true, ◌≡◌}};
 
 use crate::lock::lock_briefly;
@@ -174,13 +174,13 @@ impl<'a, R: Wait, E: Env<Node: NodeSet<E>>, S: PagableStorage<E>> Access<E>
     ) -> Result<EndedLoad, (Error, Option<Arc<E::Node>>)>
         requires { IsReadBy (values_at E.Node.NodeSet E.Env E.Hash.KeyHash self.old.setting.now.env) load
             (arc_value value) }
-        ensures acts { Acts (λ l. None) (λ l. record { me = l.me; environment = l.setting.now.env; lender = 0 })
+        ensures acts { Acts {S = PagerState E.Node E} (λ l. None) (λ l. record { me = l.me; environment = l.setting.now.env; lender = 0 })
             self.old self.new (λ a s t. MakesCallBringing
             (values_at E.Node.NodeSet E.Env E.Hash.KeyHash a.environment)
             (λ w'. EndCall s.core a.me load (arc_value value) (E.Node.type_of (arc_value value))
             (E.Node.refs_of (arc_value value)) (ended_of result) w')
             (λ n x. (x ≡ arc_value value) × IsCellOf s.core load n) s t) }
-        ensures given { IfOk result (λ ended. ended.came ≡ true → IfKnown None
+        ensures given { IfOk result (λ ended. ended.came ≡ true → IfKnown {S = PagerState E.Node E} None
             (λ s. ValueCall s ended.handle (Ok (Some (arc_value value))))) }
     {
         let mut pager = lock_briefly(self.pager, self.rt);

@@ -94,14 +94,8 @@ pub(crate) fn put_and_share<N: Drop>(
     ensures only { IfErr result (λ e. e ≡ Error.OutOfMemory) }
     ensures kept { OnErr result ((n : ℕ) → value_in values.new n ≡ value_in values.old n) }
 {
-    let shared = match Arc::new(alloc, value) {
-        Ok(shared) => shared,
-        Err(_) => return Err(Error::OutOfMemory),
-    };
-    let kept = match shared.clone() {
-        Ok(kept) => kept,
-        Err(_) => return Err(Error::OutOfMemory),
-    };
+    let shared = Arc::new(alloc, value)?;
+    let kept = shared.clone()?;
     match put_shared(values, node, true, shared) {
         Ok(()) => Ok(kept),
         Err((e, _shared)) => Err(e),
