@@ -1,0 +1,3 @@
+pub mod ByLane
+pub mod Messages
+pub mod Tails
