@@ -1,3 +1,4 @@
 pub mod ByLane
 pub mod Messages
+pub mod Rows
 pub mod Tails
