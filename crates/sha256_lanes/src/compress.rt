@@ -6,7 +6,7 @@ ghost use Rattle.std.specs.Prelude.{List, length, ℕ, ◌+◌, ◌<◌, ◌≡�
 
 use crate::constants::ROUND_CONSTANTS;
 use crate::functions::round;
-use crate::schedule::make_schedule;
+use crate::schedule::fill_schedule;
 use std::simd::prelude::*;
 
 #[inline(always)]
@@ -38,7 +38,7 @@ fn run_rounds(words: &[u32x4; 64], state: [u32x4; 8]) -> [u32x4; 8]
         → result ≡ in_lanes (λ i. rounds (s i) (schedule (b i) 48) 64) }
 {
     let mut v = state;
-    'turns: for turn in 0..8 {
+    for turn in 0..8 {
         let half = run_four_rounds(words, v, 8 * turn);
         let after = run_four_rounds(words, half, 8 * turn + 4);
         v = after;
@@ -78,6 +78,7 @@ pub(crate) fn compress(
     ensures { (s : ℕ → List ℕ) → state ≡ in_lanes s
         → result ≡ in_lanes (λ i. compress (s i) (four first.now second.now third.now fourth.now i)) }
 {
-    let words = make_schedule(first, second, third, fourth);
+    let mut words = [u32x4::splat(0); 64];
+    fill_schedule(&mut words, first, second, third, fourth);
     add(state, run_rounds(&words, state))
 }

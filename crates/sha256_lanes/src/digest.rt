@@ -54,7 +54,7 @@ fn read_digest(state: &[u32x4; 8], lane: usize) -> [u8; 32]
     ensures { (s : ℕ → List ℕ) → state.now ≡ in_lanes s → result ≡ digest_bytes (s lane) 8 }
 {
     let mut digest = [0u8; 32];
-    'words: for place in 0..8 {
+    for place in 0..8 {
         let word = state[place].to_array()[lane];
         digest[4 * place..4 * place + 4].copy_from_slice(&word.to_be_bytes());
     }

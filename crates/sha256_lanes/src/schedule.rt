@@ -45,33 +45,37 @@ fn next_word(words: &[u32x4; 64], t: usize) -> u32x4
     small_sigma1(words[t - 2]) + words[t - 7] + small_sigma0(words[t - 15]) + words[t - 16]
 }
 
-/// Returns the 64 words of each of four blocks.
+/// Sets the first 16 words: those of the blocks.
 #[inline(always)]
-pub(crate) fn make_schedule(first: &[u8], second: &[u8], third: &[u8], fourth: &[u8]) -> [u32x4; 64]
+fn load_blocks(words: &mut [u32x4; 64], first: &[u8], second: &[u8], third: &[u8], fourth: &[u8])
     requires first { length first.now ≡ 64 }
     requires second { length second.now ≡ 64 }
     requires third { length third.now ≡ 64 }
     requires fourth { length fourth.now ≡ 64 }
-    ensures { HasWords result (four first.now second.now third.now fourth.now) 64 }
+    ensures { HasWords words.new (four first.now second.now third.now fourth.now) 16 }
 {
-    let mut words = load_block(first, second, third, fourth);
-    'words: for t in 16..64 {
-        words[t] = next_word(&words, t);
-    }
-    words
-}
-
-#[inline(always)]
-fn load_block(first: &[u8], second: &[u8], third: &[u8], fourth: &[u8]) -> [u32x4; 64]
-    requires first { length first.now ≡ 64 }
-    requires second { length second.now ≡ 64 }
-    requires third { length third.now ≡ 64 }
-    requires fourth { length fourth.now ≡ 64 }
-    ensures { HasWords result (four first.now second.now third.now fourth.now) 16 }
-{
-    let mut words = [u32x4::splat(0); 64];
-    'words: for t in 0..16 {
+    for t in 0..16 {
         words[t] = load_words(first, second, third, fourth, 4 * t);
     }
-    words
+}
+
+/// Sets the 64 words of four blocks.
+#[inline(always)]
+pub(crate) fn fill_schedule(
+    words: &mut [u32x4; 64],
+    first: &[u8],
+    second: &[u8],
+    third: &[u8],
+    fourth: &[u8],
+)
+    requires first { length first.now ≡ 64 }
+    requires second { length second.now ≡ 64 }
+    requires third { length third.now ≡ 64 }
+    requires fourth { length fourth.now ≡ 64 }
+    ensures { HasWords words.new (four first.now second.now third.now fourth.now) 64 }
+{
+    load_blocks(words, first, second, third, fourth);
+    for t in 16..64 {
+        words[t] = next_word(words, t);
+    }
 }

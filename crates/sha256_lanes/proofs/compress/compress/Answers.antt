@@ -6,4 +6,4 @@ pub returns : goal.returns
 unfolding compress
 returns c s state =
     let b = four c.args.first.now c.args.second.now c.args.third.now c.args.fourth.now in
-    c.add.ensures s (λ i. rounds (s i) (schedule (b i) 48) 64) state (c.run_rounds.ensures b s c.make_schedule-words.ensures state)
+    c.add.ensures s (λ i. rounds (s i) (schedule (b i) 48) 64) state (c.run_rounds.ensures b s c.fill_schedule.ensures state)

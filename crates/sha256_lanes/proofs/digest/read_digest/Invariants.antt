@@ -3,6 +3,6 @@ use Rattle.sha256_lanes.specs.Lanes.{in_lanes}
 use Rattle.std.proofs.Common.{List, length, take, ℕ, ◌*◌, ◌≡◌}
 use Rattle.sha256_lanes.proofs.digest.read_digest.Given as goal
 
-abbrev pub invariant-words : goal.invariant-words
-invariant-words l = (length l.digest ≡ 32)
+abbrev pub invariant-loop-place : goal.invariant-loop-place
+invariant-loop-place l = (length l.digest ≡ 32)
     × ((s : ℕ → List ℕ) → l.state ≡ in_lanes s → take (4 * l.place) l.digest ≡ digest_bytes (s l.lane) l.place)
