@@ -1,5 +1,5 @@
 //! Many messages, four at a time. A message waits in the row of those that have as many blocks,
-//! until four wait there; the messages that are left over in the end are hashed one by one.
+//! until four wait there; what waits in the end is hashed with lanes to spare.
 
 ghost use Rattle.sha256_lanes.specs.{
   Blocks.{block_count},
@@ -145,26 +145,34 @@ fn take_message<const N: usize>(
     waiting[row] = wait_in_row(messages, digests, &mut rows[row], waiting[row], place);
 }
 
-/// Hashes each message that waits in a row by itself.
+/// Hashes the messages that wait in a row, which are fewer than four. Two or three are hashed at
+/// once, with the last one in the lanes that are left: that takes less time than one by one.
 fn digest_waiting<const N: usize>(
     messages: &[&[u8]],
     digests: &mut [[u8; N]],
+    count: usize,
     row: &[usize; 4],
     waiting: usize,
 )
     requires front { N ≤ 32 }
     requires long { length messages.now ≡ length digests.old }
     requires waiting { waiting < 4 }
-    requires row { (k : ℕ) → k < waiting → slice_index row.now k < length messages.now }
+    requires row { IsRow (texts_of messages.now) count row.now waiting }
     ensures keeps { KeepsDone N (texts_of messages.now) digests.old digests.new }
     ensures done { (q : ℕ) → IsWaiting row.now waiting q → IsDone N (texts_of messages.now) digests.new q }
 {
-    for place in &row[..waiting] {
-        digest_one(messages, digests, *place);
+    if waiting == 0 {
+        return;
     }
+    let last = row[waiting - 1];
+    if waiting == 1 {
+        digest_one(messages, digests, last);
+        return;
+    }
+    digest_row(messages, digests, count, [row[0], row[1], last, last]);
 }
 
-/// Hashes each message that waits in one of the rows by itself.
+/// Hashes the messages that wait in the rows.
 fn digest_left<const N: usize>(
     messages: &[&[u8]],
     digests: &mut [[u8; N]],
@@ -178,7 +186,7 @@ fn digest_left<const N: usize>(
         → IsDone N (texts_of messages.now) digests.new q }
 {
     for row in 0..ROWS {
-        digest_waiting(messages, digests, &rows[row], waiting[row]);
+        digest_waiting(messages, digests, row + 1, &rows[row], waiting[row]);
     }
 }
 
