@@ -9,6 +9,7 @@ use crate::functions::round;
 use crate::schedule::fill_schedule;
 use std::simd::prelude::*;
 
+/// Runs round `t` on the working variables of four messages.
 #[inline(always)]
 fn run_round(words: &[u32x4; 64], v: [u32x4; 8], t: usize) -> [u32x4; 8]
     requires { t < 64 }
@@ -32,6 +33,7 @@ fn run_four_rounds(words: &[u32x4; 64], v: [u32x4; 8], t: usize) -> [u32x4; 8]
     run_round(words, v, t + 3)
 }
 
+// The prover takes no call whose result goes straight into `v`, an array of vectors.
 #[inline(always)]
 fn run_rounds(words: &[u32x4; 64], state: [u32x4; 8]) -> [u32x4; 8]
     ensures { (b s : ℕ → List ℕ) → HasWords words.now b 64 → state ≡ in_lanes s
@@ -46,6 +48,7 @@ fn run_rounds(words: &[u32x4; 64], state: [u32x4; 8]) -> [u32x4; 8]
     v
 }
 
+/// Adds the working variables of four messages to their states.
 #[inline(always)]
 fn add(h: [u32x4; 8], v: [u32x4; 8]) -> [u32x4; 8]
     ensures { (s r : ℕ → List ℕ) → h ≡ in_lanes s → v ≡ in_lanes r

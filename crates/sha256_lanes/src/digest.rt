@@ -9,6 +9,7 @@ use crate::constants::INITIAL_HASH;
 use crate::padding::{count_blocks, find_block, make_tail};
 use std::simd::prelude::*;
 
+/// Returns the state of four messages of which no block was taken.
 fn make_state() -> [u32x4; 8]
     ensures { result ≡ in_lanes (λ i. initial_hash_256) }
 {
@@ -24,6 +25,7 @@ fn make_state() -> [u32x4; 8]
     ]
 }
 
+/// Returns the states of four messages after all their blocks.
 fn hash_four(first: &[u8], second: &[u8], third: &[u8], fourth: &[u8]) -> [u32x4; 8]
     requires second { block_count (length second.now) ≡ block_count (length first.now) }
     requires third { block_count (length third.now) ≡ block_count (length first.now) }
@@ -37,6 +39,7 @@ fn hash_four(first: &[u8], second: &[u8], third: &[u8], fourth: &[u8]) -> [u32x4
     let fourth_tail = make_tail(fourth);
     let mut state = make_state();
     for number in 0..count_blocks(first) {
+        // (the prover takes no call whose result goes straight into `state`)
         let next = compress(
             state,
             find_block(first, &first_tail, number),
@@ -49,6 +52,7 @@ fn hash_four(first: &[u8], second: &[u8], third: &[u8], fourth: &[u8]) -> [u32x4
     state
 }
 
+/// Returns the digest of one lane: the words of its state, high bytes first.
 fn read_digest(state: &[u32x4; 8], lane: usize) -> [u8; 32]
     requires { lane < 4 }
     ensures { (s : ℕ → List ℕ) → state.now ≡ in_lanes s → result ≡ digest_bytes (s lane) 8 }

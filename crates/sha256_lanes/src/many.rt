@@ -37,6 +37,7 @@ fn take_front<const N: usize>(digest: &[u8; 32]) -> [u8; N]
     front
 }
 
+/// Returns the message at a place.
 fn message_at<'a>(messages: &[&'a [u8]], place: usize) -> &'a [u8]
     requires { place < length messages.now }
     ensures { result.now ≡ slice_index_or (texts_of messages.now) place [] }

@@ -4,7 +4,8 @@ ghost use Rattle.sha256_lanes.specs.Blocks.{IsTail, block_count, block_of};
 ghost use Rattle.sha2.specs.Sha256.{padded_message};
 ghost use Rattle.std.specs.Prelude.{length, ◌<◌, ◌≡◌};
 
-/// Returns how many blocks of 64 bytes a message has with its padding.
+/// Returns how many blocks of 64 bytes a message has with its padding: one up to 55 bytes, two up to
+/// 119, and so on.
 pub fn count_blocks(message: &[u8]) -> usize
     ensures { result ≡ block_count (length message.now) }
 {

@@ -7,6 +7,7 @@ ghost use Rattle.std.specs.Prelude.{List, length, slice_index, ℕ, ◌+◌, ◌
 use crate::functions::{small_sigma0, small_sigma1};
 use std::simd::prelude::*;
 
+/// Returns the word at a place of a block, whose bytes stand high byte first.
 fn load_word(block: &[u8], place: usize) -> u32
     requires { place + 4 ≤ length block.now }
     ensures { result ≡ word_at block.now place }
@@ -19,6 +20,7 @@ fn load_word(block: &[u8], place: usize) -> u32
     ])
 }
 
+/// Returns the word at a place of each of four blocks.
 #[inline(always)]
 fn load_words(first: &[u8], second: &[u8], third: &[u8], fourth: &[u8], place: usize) -> u32x4
     requires first { place + 4 ≤ length first.now }
@@ -35,6 +37,7 @@ fn load_words(first: &[u8], second: &[u8], third: &[u8], fourth: &[u8], place: u
     ])
 }
 
+/// Returns word `t` of four schedules, from the words before it.
 #[inline(always)]
 fn next_word(words: &[u32x4; 64], t: usize) -> u32x4
     requires low { 16 ≤ t }
