@@ -2,7 +2,10 @@
 use Rattle.sha2.proofs.Schedule256.{slice_index-schedule_first}
 use Rattle.sha2.specs.Sha256.{schedule, word_at}
 use Rattle.sha256_lanes.specs.Lanes.{HasWords, in_lanes, lanes}
-use Rattle.std.proofs.{Common.{List, arith, inl, inr, length, slice_index, slice_set, sym, ℕ, [], ◌*◌, ◌+◌, ◌<◌, ◌∙◌, ◌≡◌}, lemmas.{Bool.cases_lt, List.{get_or-set_other, get_or-set_same}}}
+use Rattle.std.proofs.{
+  Common.{List, arith, inl, inr, length, slice_index, slice_set, sym, ℕ, [], ◌*◌, ◌+◌, ◌<◌, ◌∙◌, ◌≡◌},
+  lemmas.{Bool.cases_lt, List.{get_or-set_other, get_or-set_same}},
+}
 
 pub same_lanes : (f g : ℕ → ℕ) → ((i : ℕ) → f i ≡ g i) → lanes f ≡ lanes g
 same_lanes f g each = λ j. lanes (λ i. each i j)

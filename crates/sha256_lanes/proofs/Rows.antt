@@ -1,11 +1,37 @@
 -- Messages that wait in rows until they are done.
 use Rattle.sha256_lanes.specs.Waiting.{AreRows, IsDone, IsSettled, IsSettledIn, IsWaiting, KeepsDone, front_of_digest, texts_of}
 use Rattle.sha2.specs.Sha256.{sha256}
-use Rattle.std.proofs.{Common.{List, arith, inl, inr, length, map, replicate, slice_index, slice_index_or, slice_set, sym, take, ℕ, [], ◌<◌, ◌∙◌, ◌≡◌}, lemmas.{Bool.cases_eq, List.{ext_get_or, get_or-map, get_or-replicate, get_or-set_other, get_or-set_same, length-map}, Simd.map-map}}
+use Rattle.std.proofs.{
+  Common.{
+    List,
+    arith,
+    inl,
+    inr,
+    length,
+    map,
+    replicate,
+    slice_index,
+    slice_index_or,
+    slice_set,
+    sym,
+    take,
+    ℕ,
+    [],
+    ◌<◌,
+    ◌∙◌,
+    ◌≡◌,
+  },
+  lemmas.{
+    Bool.cases_eq,
+    List.{ext_get_or, get_or-map, get_or-replicate, get_or-set_other, get_or-set_same, length-map},
+    Simd.map-map,
+  },
+}
 use denote.Ref.{Bor}
 
 -- row r and its count have changed, and so have the digests
-module _ (size : ℕ) (texts old new rows : List (List ℕ)) (waiting row : List ℕ) (r n : ℕ) (low : r < 16) (many : length rows ≡ 16) (counts : length waiting ≡ 16) where
+module _ (size : ℕ) (texts old new rows : List (List ℕ)) (waiting row : List ℕ) (r n : ℕ)
+    (low : r < 16) (many : length rows ≡ 16) (counts : length waiting ≡ 16) where
   pub settled_in_row : (q : ℕ) → IsSettled size texts new row n q → IsSettledIn size texts new (slice_set rows r row) (slice_set waiting r n) q
   settled_in_row q settled = elim settled [
     | inl done ↦ inl done
@@ -13,7 +39,8 @@ module _ (size : ℕ) (texts old new rows : List (List ℕ)) (waiting row : List
         inr (r, low, rw (get_or-set_same rows r row [] (omega arith), get_or-set_same waiting r n 0 (omega arith)) waits)
   ]
 
-  pub still_settled : KeepsDone size texts old new → ((q : ℕ) → IsWaiting (slice_index_or rows r []) (slice_index waiting r) q → IsSettled size texts new row n q)
+  pub still_settled : KeepsDone size texts old new
+      → ((q : ℕ) → IsWaiting (slice_index_or rows r []) (slice_index waiting r) q → IsSettled size texts new row n q)
       → (q : ℕ) → IsSettledIn size texts old rows waiting q → IsSettledIn size texts new (slice_set rows r row) (slice_set waiting r n) q
   still_settled keeps of_row q settled = elim settled [
     | inl done ↦ inl (keeps q done)

@@ -1,5 +1,42 @@
 -- The sums of rotations and shifts by xor, with shifts that share their work.
-use Rattle.std.proofs.{Common.{add-zero, ap, arith, bit_or, bit_xor, pow-add, pow_pos, refl, shr-shr, subst, sym, ℕ, ◌%◌, ◌*◌, ◌+◌, ◌/◌, ◌<◌, ◌^◌, ◌∙◌, ◌≡◌}, Math.Nat.mul_assoc, lemmas.Nat.{mod-pow-add, mod_low, mul-mod_first, or_comm, or_shifted, shl-shr, shr_below, xor_block, xor_comm, xor_mod, xor_shr}}
+use Rattle.std.proofs.{
+  Common.{
+    add-zero,
+    ap,
+    arith,
+    bit_or,
+    bit_xor,
+    pow-add,
+    pow_pos,
+    refl,
+    shr-shr,
+    subst,
+    sym,
+    ℕ,
+    ◌%◌,
+    ◌*◌,
+    ◌+◌,
+    ◌/◌,
+    ◌<◌,
+    ◌^◌,
+    ◌∙◌,
+    ◌≡◌,
+  },
+  Math.Nat.mul_assoc,
+  lemmas.Nat.{
+    mod-pow-add,
+    mod_low,
+    mul-mod_first,
+    or_comm,
+    or_shifted,
+    shl-shr,
+    shr_below,
+    xor_block,
+    xor_comm,
+    xor_mod,
+    xor_shr,
+  },
+}
 use Rattle.std.specs.Int.Bits.{xor_zero_l, xor_zero_r}
 use lib.Bits.{xor_assoc}
 

@@ -1,13 +1,44 @@
 -- The padding of a message, and the block that a place of it belongs to.
 use Rattle.sha2.specs.Sha256.{padded_message, padding}
 use Rattle.sha256_lanes.specs.Blocks.{IsTail, block_count, block_of}
-use Rattle.std.proofs.{Common.{List, ap, append_assoc, arith, drop, length, length-append, length-drop, refl, replicate, slice_set, suc, sym, take, ℕ, ◌%◌, ◌*◌, ◌++◌, ◌+◌, ◌-◌, ◌/◌, ◌<◌, ◌^◌, ◌∙◌, ◌∷◌, ◌≡◌, ◌≤◌}, Math.Seq.{set-append_seam, take-append-add}, lemmas.{List.{drop-append-le, drop-drop, drop-take, length-replicate, take-append-le, take-replicate, take-take}, Slice.take-put_mid}}
+use Rattle.std.proofs.{
+  Common.{
+    List,
+    ap,
+    append_assoc,
+    arith,
+    drop,
+    length,
+    length-append,
+    length-drop,
+    refl,
+    replicate,
+    slice_set,
+    suc,
+    sym,
+    take,
+    ℕ,
+    ◌%◌,
+    ◌*◌,
+    ◌++◌,
+    ◌+◌,
+    ◌-◌,
+    ◌/◌,
+    ◌<◌,
+    ◌^◌,
+    ◌∙◌,
+    ◌∷◌,
+    ◌≡◌,
+    ◌≤◌,
+  },
+  Math.Seq.{set-append_seam, take-append-add},
+  lemmas.{
+    List.{drop-append-le, drop-drop, drop-take, length-replicate, take-append-le, take-replicate, take-take},
+    Slice.take-put_mid,
+  },
+}
 use Rattle.std.specs.Int.{to_be_bytes, w64}
 use borrow.Rule.Slice.PartMut.{put_mid}
-
--- the zeros and the length that end the padding of a message of n bytes
-abbrev ending : ℕ → List ℕ
-ending n = replicate ((119 - n % 64) % 64) 0 ++ to_be_bytes w64 (n * 8 % 2 ^ 64)
 
 length_padding : (n : ℕ) → length (padding n) ≡ (119 - n % 64) % 64 + 9
 length_padding n =
@@ -22,10 +53,6 @@ length_padded m = omega (arith, length-append m (padding (length m)), length_pad
 
 pub blocks_of_padded : (m : List ℕ) → length (padded_message m) / 64 ≡ block_count (length m)
 blocks_of_padded m = omega (arith, length_padded m)
-
--- each block has 64 bytes
-pub length_of_block : (m : List ℕ) (number : ℕ) → number < block_count (length m) → 64 ≤ length (drop (number * 64) (padded_message m))
-length_of_block m number h = omega (arith, length_padded m, length-drop (number * 64) (padded_message m))
 
 -- a block that lies within the message
 pub block_within : (m : List ℕ) (number : ℕ) → number < length m / 64 → take 64 (drop (number * 64) m) ≡ block_of m number

@@ -6,19 +6,7 @@ ghost use Rattle.sha256_lanes.specs.{
   Waiting.{AreRows, IsDone, IsRow, IsSettled, IsSettledIn, IsWaiting, KeepsDone, texts_of},
 };
 ghost use Rattle.sha2.specs.Sha256.{sha256};
-ghost use Rattle.std.specs.Prelude.{
-  List,
-  length,
-  map,
-  slice_index,
-  slice_index_or,
-  take,
-  ℕ,
-  [],
-  ◌<◌,
-  ◌≡◌,
-  ◌≤◌,
-};
+ghost use Rattle.std.specs.Prelude.{List, length, map, slice_index, slice_index_or, take, ℕ, [], ◌<◌, ◌≡◌, ◌≤◌};
 
 use crate::digest::digest_four;
 use crate::padding::count_blocks;

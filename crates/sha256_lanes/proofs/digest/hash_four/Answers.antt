@@ -14,7 +14,8 @@ loop-number-preserved c =
     c.compress-next.ensures (λ i. hash_after initial_hash_256 (padded_message (messages i)) c.loop-number.number) c.loop-number.invariant
     ∙ same_states _ _
     (one_more_block initial_hash_256 c.args.first.now c.args.second.now c.args.third.now c.args.fourth.now _ _ _ _ c.loop-number.number
-    c.find_block.ensures.value c.find_block-in-loop-number.ensures.value c.find_block-in-loop-number-2.ensures.value c.find_block-in-loop-number-3.ensures.value)
+    c.find_block.ensures.value c.find_block-in-loop-number.ensures.value c.find_block-in-loop-number-2.ensures.value
+    c.find_block-in-loop-number-3.ensures.value)
 
 pub returns : goal.returns
 returns c =
