@@ -22,9 +22,9 @@ pub trait KeyHash: Sized {
     fn finish(self) -> [u8; 16]
         ensures { (all : List ℕ) → has_input self all → result ≡ digest all };
 
-    /// Writes the hash of each message into the place of the digests that the message has among the
-    /// messages. The default implementation hashes one message after another; a hash that computes
-    /// several at once more quickly has its own.
+    /// Hashes many messages: sets each digest to the hash of the message at the same place. The default
+    /// implementation hashes one message after another; a hash that computes several at once in less
+    /// time has its own.
     fn digest_many(messages: &[&[u8]], digests: &mut [[u8; 16]])
         requires { length messages.now ≡ length digests.old }
         ensures { digests.new ≡ map (λ message. digest message.now) messages.now }

@@ -179,9 +179,9 @@ fn digest_left<const N: usize>(
     }
 }
 
-/// Writes the first bytes of the SHA-256 digest of each message, as many as a digest here has room
-/// for, into the place of the digests that the message has among the messages. Four messages that
-/// have equally many blocks of 64 bytes are hashed at once, wherever they stand.
+/// Hashes many messages: sets each digest to the first `N` bytes of the SHA-256 digest of the message
+/// at the same place. Four messages that have equally many blocks of 64 bytes are hashed at once,
+/// wherever they stand.
 pub fn digest_many<const N: usize>(messages: &[&[u8]], digests: &mut [[u8; N]])
     requires front { N ≤ 32 }
     requires long { length messages.now ≡ length digests.old }
