@@ -33,4 +33,8 @@ impl KeyHash for Sha256Key {
         half.copy_from_slice(&digest[..16]);
         half
     }
+
+    fn digest_many(messages: &[&[u8]], digests: &mut [[u8; 16]]) {
+        sha256_lanes::digest_many(messages, digests);
+    }
 }
