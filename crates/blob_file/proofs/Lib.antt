@@ -1,0 +1,2 @@
+pub mod BatchFiles
+pub mod FlushWrites

@@ -1,0 +1,35 @@
+-- An open file of batches, and what a flush makes of it.
+use Rattle.std.specs.Prelude.{◌≡◌, ◌≢◌, ◌⊎◌, ℕ, ◌+◌, ◌<◌, ◌≤◌, List, [], ◌∷◌, ◌++◌, length, take, slice_index}
+use Rattle.sqlite_disk.specs.declared.Disk.{Ghosts}
+use Rattle.sqlite_wal.specs.Format.{part}
+use Rattle.blob_file.specs.Format.{header, number, recovered, joined, AreBatches}
+
+-- the file is the header, the batches that it stands for, a shut gate at `gate`, and anything
+pub record RestsAt (gate : ℕ) (file : List ℕ) : Type 0 where
+  pub within : gate < length file
+  pub front : take gate file ≡ header ++ joined (recovered file)
+  pub place : gate ≡ 16 + length (joined (recovered file))
+  pub whole : AreBatches (recovered file)
+  pub shut : slice_index file gate ≢ 1
+
+-- the new file has the first n bytes of the old one
+pub record SameBelow (n : ℕ) (old new : List ℕ) : Type 0 where
+  pub within : n ≤ length new
+  pub each : (i : ℕ) → i < n → slice_index new i ≡ slice_index old i
+
+-- the file rests at this gate, and whatever a crash leaves is the same up to the gate and with it
+pub record IsReady {D : Type 0} (g : Ghosts D) (gate : ℕ) (disk : D) : Type 0 where
+  pub rests : RestsAt gate (g.seen disk)
+  pub crash : (c : List ℕ) → g.may_leave disk c → SameBelow (gate + 1) (g.seen disk) c
+
+-- a batch, by its head without the gate
+abbrev pub batch_of : List ℕ → List ℕ → List ℕ → List ℕ
+batch_of head bodies rows = 1 ∷ (head ++ (bodies ++ rows))
+
+-- the batch with this head and these rows, whose bodies stand behind the gate already; of `rows` the last byte is the next gate
+abbrev pub batch_behind : ℕ → List ℕ → List ℕ → List ℕ → List ℕ
+batch_behind gate file head rows = batch_of head (part file (gate + 25) (number (0 ∷ head) 1)) (part rows 0 (number (0 ∷ head) 9))
+
+-- the file stands for the old batches, or for these and the new one behind them
+abbrev pub IsOldOrNew : List (List ℕ) → List ℕ → List ℕ → Type 0
+IsOldOrNew old batch file = (recovered file ≡ old) ⊎ (recovered file ≡ old ++ batch ∷ [])
