@@ -1,2 +1,7 @@
 pub mod BatchFiles
 pub mod FlushWrites
+pub mod Fronts
+pub mod Heads
+pub mod Repairs
+pub mod Scans
+pub mod Walks

@@ -1,8 +1,8 @@
 -- An open file of batches, and what a flush makes of it.
-use Rattle.std.specs.Prelude.{◌≡◌, ◌≢◌, ◌⊎◌, ℕ, ◌+◌, ◌<◌, ◌≤◌, List, [], ◌∷◌, ◌++◌, length, take, slice_index}
+use Rattle.std.specs.Prelude.{◌≡◌, ◌≢◌, ◌⊎◌, ℕ, ◌+◌, ◌<◌, ◌≤◌, false, List, [], ◌∷◌, ◌++◌, length, take, drop, slice_index}
 use Rattle.sqlite_disk.specs.declared.Disk.{Ghosts}
 use Rattle.sqlite_wal.specs.Format.{part}
-use Rattle.blob_file.specs.Format.{header, number, recovered, joined, AreBatches}
+use Rattle.blob_file.specs.Format.{header, number, is_open, recovered, joined, AreBatches}
 
 -- the file is the header, the batches that it stands for, a shut gate at `gate`, and anything
 pub record RestsAt (gate : ℕ) (file : List ℕ) : Type 0 where
@@ -11,6 +11,14 @@ pub record RestsAt (gate : ℕ) (file : List ℕ) : Type 0 where
   pub place : gate ≡ 16 + length (joined (recovered file))
   pub whole : AreBatches (recovered file)
   pub shut : slice_index file gate ≢ 1
+
+-- the file is the header, the batches that it stands for, and behind them no whole batch with an open gate
+pub record EndsAt (gate : ℕ) (file : List ℕ) : Type 0 where
+  pub within : gate ≤ length file
+  pub front : take gate file ≡ header ++ joined (recovered file)
+  pub place : gate ≡ 16 + length (joined (recovered file))
+  pub whole : AreBatches (recovered file)
+  pub ends : is_open (drop gate file) ≡ false
 
 -- the new file has the first n bytes of the old one
 pub record SameBelow (n : ℕ) (old new : List ℕ) : Type 0 where

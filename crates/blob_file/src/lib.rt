@@ -1,6 +1,11 @@
 //! Blobs by key, and names of roots, in one file that only grows, over any `Disk`.
 #![tactic(auto)]
 
+pub mod front;
+pub mod head;
+pub mod file_error;
+pub mod scanning;
 pub mod sealing;
 
+pub use file_error::FileError;
 pub use sealing::seal;
