@@ -1,12 +1,12 @@
 -- What the end of a file is made to be at an open, and what a crash in it leaves.
 use Rattle.std.proofs.Common.{◌≡◌, ◌≢◌, ◌⊎◌, inl, inr, refl, sym, ◌∙◌, ap, subst, ℕ, zero, suc, ◌+◌, ◌-◌, ◌<◌, ◌≤◌, Bool, true, false, if◌then◌else◌, List, [], ◌∷◌, ◌++◌, length, take, drop, arith, append_assoc, append-nil, length-append, length-drop, length-take, take-append-drop, take-take, ext_get_or, get_or-drop, add-zero}
 use Rattle.std.specs.Prelude.{slice_index, IsTrue, MatchBool}
-use Rattle.std.proofs.lemmas.Bool.{cases_eq, cases_lt, cases_order, cases_Bool}
+use Rattle.std.proofs.lemmas.Bool.{and_parts, cases_eq, cases_lt, cases_order, cases_Bool, leb-true}
 use Rattle.std.proofs.lemmas.Slice.Eq.{bytes_eq-Decides}
 use Rattle.sqlite_disk.specs.declared.Disk.{Ghosts}
 use Rattle.sqlite_disk.specs.Disk.{Holds, Torn, Only}
 use Rattle.sqlite_wal.specs.Gate.{IsShut}
-use Rattle.blob_file.specs.Format.{header, new_file, is_open, is_made, is_unmade, batches, recovered, joined, AreBatches}
+use Rattle.blob_file.specs.Format.{header, new_file, is_open, is_made, is_unmade, batches, recovered, joined, AreBatches, AreSummed}
 use Rattle.blob_file.specs.Log.{EndsAt, RestsAt, SameBelow, IsReady}
 use Rattle.blob_file.proofs.BatchFiles.{batches-joined, few_batches, recovered_of, same_front, shut_batch}
 use Rattle.blob_file.proofs.FlushWrites.{same_all}
@@ -101,3 +101,20 @@ new_rests =
       whole = subst AreBatches (sym none) tt;
       shut = λ bad. absurd (omega (arith, bad));
     }
+
+pub unmade_small : (file : List ℕ) → is_unmade file ≡ true → length file ≤ 17
+unmade_small file it = leb-true _ _ (and_parts _ _ it).0
+
+-- whatever a crash leaves of a file that is being made
+pub created : (file d c : List ℕ) → length file ≤ 17 → d ≡ file → ((c ≡ d) ⊎ (length d ≤ 17 → length c ≤ 17)) → recovered c ≡ recovered file
+created file d c small same step = elim step [
+  | inl was ↦ ap recovered (was ∙ same)
+  | inr still ↦ recovered_small c (still (omega (arith, small, ap length same))) ∙ sym (recovered_small file small)
+]
+
+-- a file without a batch is one whose batches have their sums
+pub none_summed : (file : List ℕ) → length file ≤ 17 → AreSummed (recovered file)
+none_summed file small = subst AreSummed (sym (recovered_small file small)) tt
+
+pub recovered_new : recovered new_file ≡ []
+recovered_new = recovered_small new_file (omega arith)

@@ -1,7 +1,10 @@
 -- Why a file may be refused, and what a walk over its batches knows.
-use Rattle.std.specs.Prelude.{◌≡◌, ℕ, ◌≤◌, false, ⊤, List, ◌++◌, length, take}
+use Rattle.std.specs.Prelude.{◌≡◌, ◌⊎◌, ℕ, ◌≤◌, false, ◌||◌, IsTrue, ⊤, List, ◌++◌, length, take}
+use Rattle.sqlite_disk.specs.declared.Disk.{Ghosts}
 use Rattle.sqlite_disk.specs.Disk.{MoreFaults}
+use Rattle.sqlite_wal.specs.Reads.{IsClean}
 use Rattle.blob_file.specs.Format.{header, joined, recovered, is_made, is_unmade, AreBatches, AreSummed}
+use Rattle.blob_file.specs.Log.{RestsAt, IsReady}
 use Rattle.blob_file.specs.declared.file_error.FileError.{FileError}
 use Rattle.blob_file.specs.declared.file_error.FileError.TheVariants.{OutOfMemory, NotBlobs, Damaged, Failed}
 
@@ -26,3 +29,29 @@ pub record StandsTo (at : ℕ) (file : List ℕ) : Type 0 where
   pub front : take at file ≡ header ++ joined before
   pub whole : AreBatches before
   pub summed : AreSummed before
+
+-- The file is open, with its shut gate at `gate`. Nothing of what it stands for is lost or made, and one that rested already has no byte written.
+pub record Opens {D : Type 0} (g : Ghosts D) (old : D) (gate : ℕ) (new : D) : Type 0 where
+  pub usable : IsTrue (g.is_usable new)
+  pub found : IsClean g new → recovered (g.seen new) ≡ recovered (g.seen old)
+  pub ready : IsClean g new → IsReady g gate new
+  pub summed : IsClean g new → AreSummed (recovered (g.seen old))
+  pub known : IsClean g new → IsTrue (is_made (g.seen old) || is_unmade (g.seen old))
+  pub untouched : IsClean g new → (place : ℕ) → RestsAt place (g.seen old) → g.seen new ≡ g.seen old
+
+-- whatever a crash leaves, it left before, or it stands for what the file stood for
+pub record KeepsBatches {D : Type 0} (g : Ghosts D) (old new : D) : Type 0 where
+  pub clean : IsClean g new → IsClean g old
+  pub crash : IsClean g new → (c : List ℕ) → g.may_leave new c → g.may_leave old c ⊎ (recovered c ≡ recovered (g.seen old))
+
+-- no byte was written
+pub record KeepsBytes {D : Type 0} (g : Ghosts D) (old new : D) : Type 0 where
+  pub seen : g.seen new ≡ g.seen old
+  pub crash : (c : List ℕ) → g.may_leave new c → g.may_leave old c
+
+-- a refusal leaves the file as it was, but where the disk failed
+abbrev pub KeepsBytesUnlessFailed : {D : Type 0} → Ghosts D → D → D → FileError → Type 0
+KeepsBytesUnlessFailed g old new OutOfMemory = KeepsBytes g old new
+KeepsBytesUnlessFailed g old new NotBlobs = KeepsBytes g old new
+KeepsBytesUnlessFailed g old new Damaged = KeepsBytes g old new
+KeepsBytesUnlessFailed g old new Failed = ⊤

@@ -4,6 +4,8 @@
 pub mod front;
 pub mod head;
 pub mod file_error;
+pub mod opening;
+pub mod repair;
 pub mod scanning;
 pub mod sealing;
 
