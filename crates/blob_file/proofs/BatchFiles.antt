@@ -128,3 +128,7 @@ grown gate file c b rests s it within is shut =
         shut = shut;
       },
     )
+
+pub size_least : (b : List ℕ) → 25 ≤ size_of b
+unfolding size_of
+size_least b = omega arith

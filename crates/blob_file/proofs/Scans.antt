@@ -12,7 +12,7 @@ use Rattle.blob_file.specs.Format.{header, number, size_of, head_of, is_open, op
 use Rattle.blob_file.specs.Log.{EndsAt}
 use Rattle.blob_file.specs.Opening.{StandsTo}
 use Rattle.blob_file.specs.declared.head.Head.{Head}
-use Rattle.blob_file.proofs.BatchFiles.{part_front, number_front, size_of-front, batches-joined, few_batches, joined-push, all-push, recovered_of}
+use Rattle.blob_file.proofs.BatchFiles.{part_front, number_front, size_of-front, batches-joined, few_batches, joined-push, all-push, recovered_of, size_least}
 use Rattle.blob_file.proofs.Heads.{part-drop}
 
 -- a head that was found is that of an open batch
@@ -53,10 +53,6 @@ open_gate b opens = eqb-true _ _ (and_parts _ _ opens).0
 open_size : (b : List ℕ) → is_open b ≡ true → size_of b ≤ length b
 unfolding is_open
 open_size b opens = leb-true _ _ (and_parts _ _ opens).1
-
-size_least : (b : List ℕ) → 25 ≤ size_of b
-unfolding size_of
-size_least b = omega arith
 
 -- an open batch is the front of what is read
 front_again : (b : List ℕ) → take (size_of b) b ++ drop (size_of b) b ≡ b

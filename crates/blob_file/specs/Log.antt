@@ -1,8 +1,8 @@
 -- An open file of batches, and what a flush makes of it.
-use Rattle.std.specs.Prelude.{◌≡◌, ◌≢◌, ◌⊎◌, ℕ, ◌+◌, ◌<◌, ◌≤◌, false, List, [], ◌∷◌, ◌++◌, length, take, drop, slice_index}
+use Rattle.std.specs.Prelude.{◌≡◌, ◌≢◌, ◌⊎◌, ℕ, ◌+◌, ◌-◌, ◌<◌, ◌≤◌, false, List, [], ◌∷◌, ◌++◌, length, take, drop, slice_index}
 use Rattle.sqlite_disk.specs.declared.Disk.{Ghosts}
 use Rattle.sqlite_wal.specs.Format.{part}
-use Rattle.blob_file.specs.Format.{header, number, is_open, recovered, joined, AreBatches}
+use Rattle.blob_file.specs.Format.{header, size_of, is_open, recovered, joined, AreBatches}
 
 -- the file is the header, the batches that it stands for, a shut gate at `gate`, and anything
 pub record RestsAt (gate : ℕ) (file : List ℕ) : Type 0 where
@@ -30,13 +30,14 @@ pub record IsReady {D : Type 0} (g : Ghosts D) (gate : ℕ) (disk : D) : Type 0 
   pub rests : RestsAt gate (g.seen disk)
   pub crash : (c : List ℕ) → g.may_leave disk c → SameBelow (gate + 1) (g.seen disk) c
 
--- a batch, by its head without the gate
-abbrev pub batch_of : List ℕ → List ℕ → List ℕ → List ℕ
-batch_of head bodies rows = 1 ∷ (head ++ (bodies ++ rows))
+-- the batch that stands behind a shut gate, as it is once the gate is open
+abbrev pub batch_behind : ℕ → List ℕ → List ℕ
+batch_behind gate file = 1 ∷ part file (gate + 1) (size_of (drop gate file) - 1)
 
--- the batch with this head and these rows, whose bodies stand behind the gate already; of `rows` the last byte is the next gate
-abbrev pub batch_behind : ℕ → List ℕ → List ℕ → List ℕ → List ℕ
-batch_behind gate file head rows = batch_of head (part file (gate + 25) (number (0 ∷ head) 1)) (part rows 0 (number (0 ∷ head) 9))
+-- a whole batch stands behind the gate, and a shut gate behind the batch
+pub record IsStaged (gate : ℕ) (file : List ℕ) : Type 0 where
+  pub within : gate + size_of (drop gate file) < length file
+  pub next : slice_index file (gate + size_of (drop gate file)) ≢ 1
 
 -- the file stands for the old batches, or for these and the new one behind them
 abbrev pub IsOldOrNew : List (List ℕ) → List ℕ → List ℕ → Type 0
