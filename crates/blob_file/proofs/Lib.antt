@@ -1,4 +1,5 @@
 pub mod BatchFiles
+pub mod BatchWrites
 pub mod FlushWrites
 pub mod Fronts
 pub mod Heads

@@ -2,7 +2,7 @@
 use Rattle.std.specs.Prelude.{◌≡◌, ℕ, zero, suc, ◌+◌, ◌==◌, nat_le, Bool, ◌&&◌, ◌||◌, if◌then◌else◌, ⊤, List, [], ◌∷◌, ◌++◌, length, take, drop, slice_index, Option, Some, None}
 use Rattle.std.specs.List.{list_all, zip}
 use Rattle.std.specs.Str.{bytes_eq}
-use Rattle.std.specs.Int.{w64, from_le_bytes}
+use Rattle.std.specs.Int.{w64, from_le_bytes, to_le_bytes}
 use Rattle.sqlite_disk.specs.Digest.{digest}
 use Rattle.sqlite_wal.specs.Format.{part}
 use Rattle.blob_file.specs.declared.head.Head.{Head}
@@ -18,6 +18,10 @@ number b at = from_le_bytes w64 (part b at 8)
 -- what the 25 bytes at the front of a batch say
 abbrev pub head_of : List ℕ → Head
 head_of b = record { bodies = number b 1; rows = number b 9; sum = number b 17 }
+
+-- the head of a batch without its gate: the lengths of the bodies and of the rows, and the sum of the rows
+abbrev pub head_bytes : ℕ → List ℕ → List ℕ
+head_bytes bodies rows = to_le_bytes w64 bodies ++ (to_le_bytes w64 (length rows) ++ to_le_bytes w64 (digest 0 rows))
 
 -- how many bytes a batch has, as its head says
 unfoldable pub size_of : List ℕ → ℕ

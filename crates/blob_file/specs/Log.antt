@@ -34,6 +34,10 @@ pub record IsReady {D : Type 0} (g : Ghosts D) (gate : ℕ) (disk : D) : Type 0 
 abbrev pub batch_behind : ℕ → List ℕ → List ℕ
 batch_behind gate file = 1 ∷ part file (gate + 1) (size_of (drop gate file) - 1)
 
+-- a batch of these parts
+abbrev pub batch_of : List ℕ → List ℕ → List ℕ → List ℕ
+batch_of head bodies rows = 1 ∷ (head ++ (bodies ++ rows))
+
 -- a whole batch stands behind the gate, and a shut gate behind the batch
 pub record IsStaged (gate : ℕ) (file : List ℕ) : Type 0 where
   pub within : gate + size_of (drop gate file) < length file

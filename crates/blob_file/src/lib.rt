@@ -8,6 +8,7 @@ pub mod opening;
 pub mod repair;
 pub mod scanning;
 pub mod sealing;
+pub mod staging;
 
 pub use file_error::FileError;
 pub use sealing::seal;
