@@ -3,6 +3,7 @@ pub mod BatchWrites
 pub mod FlushWrites
 pub mod Fronts
 pub mod Heads
+pub mod NewBatches
 pub mod Repairs
 pub mod Scans
 pub mod Walks

@@ -32,7 +32,7 @@ gate_byte gate c = get_or-drop gate c 0 0 ∙ ap (slice_index c) (add-zero gate)
 pub shut_end : (gate : ℕ) (c : List ℕ) → slice_index c gate ≢ 1 → is_open (drop gate c) ≡ false
 shut_end gate c shut = shut_batch (drop gate c) (λ bad. shut (sym (gate_byte gate c) ∙ bad))
 
-torn_front : (gate : ℕ) (file c : List ℕ) → gate ≤ length file → Torn gate 1 file c → SameBelow gate file c
+pub torn_front : (gate : ℕ) (file c : List ℕ) → gate ≤ length file → Torn gate 1 file c → SameBelow gate file c
 torn_front gate file c within torn = record { within = omega (arith, torn.no_shorter, within); each = λ i low. torn.below i (omega arith) low }
 
 -- whatever a write of the gate leaves, where none was there or an open one before a batch that is cut short, it stands for the same

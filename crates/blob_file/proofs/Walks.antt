@@ -7,7 +7,7 @@ use Rattle.sqlite_wal.specs.Reads.{IsClean, OnlyReads}
 use Rattle.blob_file.specs.Format.{AreSummed, open_head, recovered}
 use Rattle.blob_file.specs.Opening.{Refuses, StandsTo}
 use Rattle.blob_file.specs.declared.file_error.FileError.{FileError}
-use Rattle.blob_file.specs.declared.file_error.FileError.TheVariants.{OutOfMemory, NotBlobs, Damaged, Failed}
+use Rattle.blob_file.specs.declared.file_error.FileError.TheVariants.{OutOfMemory, NotBlobs, Damaged, Failed, Shut, TooLong}
 use Rattle.blob_file.specs.declared.head.Head.{Head}
 
 pub record Walks {D : Type 0} (g : Ghosts D) (at len : ℕ) (first disk : D) : Type 0 where
@@ -34,8 +34,10 @@ pub found_here : (file now : List ℕ) (at : ℕ) (found it : Option Head) → n
 found_here file now at found it same is e = ap (λ (f : List ℕ). open_head (drop at f)) (sym same) ∙ sym is ∙ e
 
 -- why rows that are read may refuse the file
-pub refuses_rows : {X : Type 0} (clean : Type 0) (file : List ℕ) (before after : ℕ) (result : Result X FileError) (e : FileError) → result ≡ Err e → (result ≡ Err Damaged → clean → AreSummed (recovered file) → ⊥) → (result ≡ Err NotBlobs → ⊥) → (result ≡ Err Failed → MoreFaults before after) → Refuses clean file before after e
+pub refuses_rows : {X : Type 0} (clean : Type 0) (file : List ℕ) (before after : ℕ) (result : Result X FileError) (e : FileError) → result ≡ Err e → (result ≡ Err Damaged → clean → AreSummed (recovered file) → ⊥) → (result ≡ Err NotBlobs → ⊥) × (result ≡ Err Shut → ⊥) × (result ≡ Err TooLong → ⊥) → (result ≡ Err Failed → MoreFaults before after) → Refuses clean file before after e
 refuses_rows clean file before after result OutOfMemory is damaged kind failed = tt
-refuses_rows clean file before after result NotBlobs is damaged kind failed = absurd (kind is)
+refuses_rows clean file before after result NotBlobs is damaged kind failed = absurd (kind.0 is)
 refuses_rows clean file before after result Damaged is damaged kind failed = damaged is
 refuses_rows clean file before after result Failed is damaged kind failed = failed is
+refuses_rows clean file before after result Shut is damaged kind failed = absurd (kind.1 is)
+refuses_rows clean file before after result TooLong is damaged kind failed = absurd (kind.2 is)

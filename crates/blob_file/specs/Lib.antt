@@ -1,3 +1,4 @@
+pub mod Appending
 pub mod Format
 pub mod Log
 pub mod Opening

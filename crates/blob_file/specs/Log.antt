@@ -2,7 +2,7 @@
 use Rattle.std.specs.Prelude.{◌≡◌, ◌≢◌, ◌⊎◌, ℕ, ◌+◌, ◌-◌, ◌<◌, ◌≤◌, false, List, [], ◌∷◌, ◌++◌, length, take, drop, slice_index}
 use Rattle.sqlite_disk.specs.declared.Disk.{Ghosts}
 use Rattle.sqlite_wal.specs.Format.{part}
-use Rattle.blob_file.specs.Format.{header, size_of, is_open, recovered, joined, AreBatches}
+use Rattle.blob_file.specs.Format.{header, head_bytes, size_of, is_open, recovered, joined, AreBatches, IsSummed}
 
 -- the file is the header, the batches that it stands for, a shut gate at `gate`, and anything
 pub record RestsAt (gate : ℕ) (file : List ℕ) : Type 0 where
@@ -46,3 +46,12 @@ pub record IsStaged (gate : ℕ) (file : List ℕ) : Type 0 where
 -- the file stands for the old batches, or for these and the new one behind them
 abbrev pub IsOldOrNew : List (List ℕ) → List ℕ → List ℕ → Type 0
 IsOldOrNew old batch file = (recovered file ≡ old) ⊎ (recovered file ≡ old ++ batch ∷ [])
+
+-- the batch of these bodies and rows
+abbrev pub new_batch : List ℕ → List ℕ → List ℕ
+new_batch bodies rows = batch_of (head_bytes (length bodies) rows) bodies rows
+
+-- What a crash leaves where a batch is added at the gate: the old batches, or these and the new one, which has its sum. Nothing below the gate differs.
+pub record IsLeft (gate : ℕ) (old batch c : List ℕ) : Type 0 where
+  pub stands : (recovered c ≡ recovered old) ⊎ ((recovered c ≡ recovered old ++ batch ∷ []) × IsSummed batch)
+  pub below : SameBelow gate old c

@@ -6,7 +6,7 @@ use Rattle.sqlite_wal.specs.Reads.{IsClean}
 use Rattle.blob_file.specs.Format.{header, joined, recovered, is_made, is_unmade, AreBatches, AreSummed}
 use Rattle.blob_file.specs.Log.{RestsAt, IsReady}
 use Rattle.blob_file.specs.declared.file_error.FileError.{FileError}
-use Rattle.blob_file.specs.declared.file_error.FileError.TheVariants.{OutOfMemory, NotBlobs, Damaged, Failed}
+use Rattle.blob_file.specs.declared.file_error.FileError.TheVariants.{OutOfMemory, NotBlobs, Damaged, Failed, Shut, TooLong}
 
 -- what an error says of the file, where the disk is clean, and of the disk's faults
 abbrev pub Refuses : Type 0 → List ℕ → ℕ → ℕ → FileError → Type 0
@@ -14,6 +14,8 @@ Refuses clean file before after OutOfMemory = ⊤
 Refuses clean file before after NotBlobs = clean → (is_made file ≡ false) × (is_unmade file ≡ false)
 Refuses clean file before after Damaged = clean → ¬ AreSummed (recovered file)
 Refuses clean file before after Failed = MoreFaults before after
+Refuses clean file before after Shut = ⊥
+Refuses clean file before after TooLong = ⊥
 
 -- the error of a read: only memory, or the disk
 abbrev pub FailsAlone : ℕ → ℕ → FileError → Type 0
@@ -21,6 +23,8 @@ FailsAlone before after OutOfMemory = ⊤
 FailsAlone before after NotBlobs = ⊥
 FailsAlone before after Damaged = ⊥
 FailsAlone before after Failed = MoreFaults before after
+FailsAlone before after Shut = ⊥
+FailsAlone before after TooLong = ⊥
 
 -- up to `at` the file is the header and whole batches, each with the sum that it says
 pub record StandsTo (at : ℕ) (file : List ℕ) : Type 0 where
@@ -55,3 +59,5 @@ KeepsBytesUnlessFailed g old new OutOfMemory = KeepsBytes g old new
 KeepsBytesUnlessFailed g old new NotBlobs = KeepsBytes g old new
 KeepsBytesUnlessFailed g old new Damaged = KeepsBytes g old new
 KeepsBytesUnlessFailed g old new Failed = ⊤
+KeepsBytesUnlessFailed g old new Shut = ⊥
+KeepsBytesUnlessFailed g old new TooLong = ⊥

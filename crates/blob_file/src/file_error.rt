@@ -17,6 +17,10 @@ pub enum FileError {
     Damaged,
     /// The disk failed.
     Failed,
+    /// A flush failed, so the file has to be opened anew.
+    Shut,
+    /// The file would have 2^64 bytes or more.
+    TooLong,
 }
 
 impl From<io::Error> for FileError {
@@ -50,6 +54,8 @@ impl fmt::Display for FileError {
             FileError::NotBlobs => "the file is none of blobs",
             FileError::Damaged => "the file is damaged",
             FileError::Failed => "the disk failed",
+            FileError::Shut => "an earlier failure shut the file",
+            FileError::TooLong => "the file would be too long",
         })
     }
 }

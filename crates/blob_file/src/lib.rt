@@ -4,6 +4,8 @@
 pub mod front;
 pub mod head;
 pub mod file_error;
+pub mod laws;
+pub mod log;
 pub mod opening;
 pub mod repair;
 pub mod scanning;
@@ -11,4 +13,4 @@ pub mod sealing;
 pub mod staging;
 
 pub use file_error::FileError;
-pub use sealing::seal;
+pub use log::Log;

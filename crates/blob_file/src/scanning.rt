@@ -1,7 +1,7 @@
 //! The walk over the batches of a file, from its front up to the gate behind the last.
 
 ghost use Rattle.blob_file.specs.{Format.{AreSummed, IsSummed, is_made, open_head, recovered, rows_of}, Log.{EndsAt}, Opening.{FailsAlone, Refuses}};
-ghost use Rattle.blob_file.specs.declared.file_error.FileError.TheVariants.{Damaged, Failed, NotBlobs};
+ghost use Rattle.blob_file.specs.declared.file_error.FileError.TheVariants.{Damaged, Failed, NotBlobs, Shut, TooLong};
 ghost use Rattle.sqlite_disk.specs.Disk.{MoreFaults};
 ghost use Rattle.sqlite_wal.specs.Format.{part};
 ghost use Rattle.sqlite_wal.specs.Reads.{IsClean, OnlyReads};
@@ -50,7 +50,7 @@ fn read_rows<D: Disk>(
     ensures rows { IfOk result (λ rows. IsClean D.Disk disk.new → rows.items ≡ rows_of (drop at (D.seen disk.old))) }
     ensures summed { OnOk result (IsClean D.Disk disk.new → IsSummed (drop at (D.seen disk.old))) }
     ensures damaged { result ≡ Err Damaged → IsClean D.Disk disk.new → ¬ IsSummed (drop at (D.seen disk.old)) }
-    ensures kind { result ≢ Err NotBlobs }
+    ensures kind { (result ≢ Err NotBlobs) × (result ≢ Err Shut) × (result ≢ Err TooLong) }
     ensures failed { result ≡ Err Failed → MoreFaults (D.faults disk.old) (D.faults disk.new) }
     ensures faults { OnOk result (D.faults disk.new ≡ D.faults disk.old) }
     ensures same { OnlyReads D.Disk disk.old disk.new }

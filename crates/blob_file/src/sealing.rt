@@ -1,6 +1,6 @@
 //! The end of a flush: three calls that make a batch count, whole or not at all, with no checksum.
 
-ghost use Rattle.blob_file.specs.{Format.{recovered, size_of}, Log.{IsOldOrNew, IsReady, IsStaged, batch_behind}};
+ghost use Rattle.blob_file.specs.{Format.{recovered, size_of}, Log.{IsOldOrNew, IsReady, IsStaged, SameBelow, batch_behind}};
 ghost use Rattle.sqlite_disk.specs.Disk.{CountsFault};
 ghost use Rattle.sqlite_wal.specs.Reads.{IsClean};
 ghost use Rattle.std.specs.Prelude.{IsTrue, List, OnOk, drop, ℕ, [], ◌++◌, ◌+◌, ◌∷◌, ◌≡◌};
@@ -22,6 +22,7 @@ pub fn seal<D: Disk>(disk: &mut D, gate: usize) -> io::Result<()>
     // At each exit, whatever a crash leaves stands for the batches from before, or for these and this one.
     ensures any_moment { IsClean D.Disk disk.new → (c : List ℕ) → D.may_leave disk.new c
         → IsOldOrNew (recovered (D.seen disk.old)) (batch_behind gate (D.seen disk.old)) c }
+    ensures below { IsClean D.Disk disk.new → (c : List ℕ) → D.may_leave disk.new c → SameBelow gate (D.seen disk.old) c }
 
     ensures acknowledged { OnOk result (IsClean D.Disk disk.new
         → recovered (D.seen disk.new) ≡ recovered (D.seen disk.old) ++ batch_behind gate (D.seen disk.old) ∷ []) }

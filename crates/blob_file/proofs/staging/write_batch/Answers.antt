@@ -1,7 +1,7 @@
-use Rattle.std.proofs.Common.{◌≡◌, ◌∙◌, ◌+◌, ◌<◌, arith}
+use Rattle.std.proofs.Common.{◌≡◌, ◌∙◌, ◌+◌, ◌<◌, ◌≤◌, arith}
 use Rattle.std.proofs.lemmas.Result.{on_ok_weaker}
 use Rattle.blob_file.proofs.BatchWrites.{Wrote, staged, batch_written}
-use Rattle.blob_file.proofs.FlushWrites.{kept_behind, ready_behind}
+use Rattle.blob_file.proofs.FlushWrites.{kept_behind, ready_behind, same_all, torn_behind}
 use Rattle.blob_file.proofs.staging.write_batch.Goals as goal
 
 pub returns-in_err-write_at-clause-ready : goal.returns-in_err-write_at-clause-ready
@@ -70,3 +70,21 @@ returns-clause-same g c clean =
     let first = ready_behind g.D.Disk c.args.gate _ _ _ _ (omega arith) was c.write_at.ensures.others c.write_at.ensures.crash in
     let second = ready_behind g.D.Disk c.args.gate _ _ _ _ (omega arith) first c.write_at-2.ensures.others c.write_at-2.ensures.crash in
     kept_behind c.args.gate _ _ _ _ (omega arith) second.rests c.write_at-3.ensures.others ∙ kept_behind c.args.gate _ _ _ _ (omega arith) first.rests c.write_at-2.ensures.others ∙ kept_behind c.args.gate _ _ _ _ (omega arith) was.rests c.write_at.ensures.others
+
+pub returns-in_err-write_at-clause-below : goal.returns-in_err-write_at-clause-below
+returns-in_err-write_at-clause-below g c clean =
+    let was = (c.requires.ready (c.write_at.ensures.clean clean)).rests in
+    torn_behind (c.args.gate + 1) _ _ _ _ _ (omega arith) (same_all _ _ (omega (arith, was.within))) c.write_at.ensures.others
+
+pub returns-in_err-write_at-2-clause-below : goal.returns-in_err-write_at-2-clause-below
+returns-in_err-write_at-2-clause-below g c clean =
+    let was = (c.requires.ready (c.write_at.ensures.clean (c.write_at-2.ensures.clean clean))).rests in
+    let first = torn_behind (c.args.gate + 1) _ _ _ _ _ (omega arith) (same_all _ _ (omega (arith, was.within))) c.write_at.ensures.others in
+    torn_behind (c.args.gate + 1) _ _ _ _ _ (omega arith) first c.write_at-2.ensures.others
+
+pub returns-clause-below : goal.returns-clause-below
+returns-clause-below g c clean =
+    let was = (c.requires.ready (c.write_at.ensures.clean (c.write_at-2.ensures.clean (c.write_at-3.ensures.clean clean)))).rests in
+    let first = torn_behind (c.args.gate + 1) _ _ _ _ _ (omega arith) (same_all _ _ (omega (arith, was.within))) c.write_at.ensures.others in
+    let second = torn_behind (c.args.gate + 1) _ _ _ _ _ (omega arith) first c.write_at-2.ensures.others in
+    torn_behind (c.args.gate + 1) _ _ _ _ _ (omega arith) second c.write_at-3.ensures.others
