@@ -4,6 +4,7 @@ pub mod FlushWrites
 pub mod Fronts
 pub mod Heads
 pub mod NewBatches
+pub mod Reopens
 pub mod Repairs
 pub mod Scans
 pub mod Walks
