@@ -73,12 +73,12 @@ batch_written gate head bodies tail s0 s1 s2 s3 w =
     let last : gate + 25 + n + 0 ≡ gate + 25 + n = add-zero (gate + 25 + n) in
     let first_part : part s3 (gate + 1) 24 ≡ head = held_is_part s3 head (gate + 1) 24 w.head_there w.head_size in
     let middle : part s3 (gate + 25) n ≡ bodies =
-        above_or_none s2 s3 (gate + 1) (length head) (gate + 25) n w.third (omega (arith, w.head_size)) (λ some. omega (arith, w.tail_there.within, w.tail_size))
-        ∙ below_or_none s1 s2 (gate + 25 + n) (length tail) (gate + 25) n w.second (omega arith) (λ some. (w.bodies_there some).within)
-        ∙ part_or_none s1 bodies (gate + 25) w.bodies_there in
+    above_or_none s2 s3 (gate + 1) (length head) (gate + 25) n w.third (omega (arith, w.head_size)) (λ some. omega (arith, w.tail_there.within, w.tail_size))
+    ∙ below_or_none s1 s2 (gate + 25 + n) (length tail) (gate + 25) n w.second (omega arith) (λ some. (w.bodies_there some).within)
+    ∙ part_or_none s1 bodies (gate + 25) w.bodies_there in
     let end : part s3 (gate + 25 + n) m ≡ take (length tail - 1) tail =
-        above_or_none s2 s3 (gate + 1) (length head) (gate + 25 + n) m w.third (omega (arith, w.head_size)) (λ some. omega (arith, w.tail_there.within, w.tail_size))
-        ∙ ap (λ (x : ℕ). part s2 x m) (sym last) ∙ part_held s2 tail (gate + 25 + n) 0 m w.tail_there (omega (arith, w.tail_size)) ∙ ap (λ (k : ℕ). take k tail) (sym few) in
+    above_or_none s2 s3 (gate + 1) (length head) (gate + 25 + n) m w.third (omega (arith, w.head_size)) (λ some. omega (arith, w.tail_there.within, w.tail_size))
+    ∙ ap (λ (x : ℕ). part s2 x m) (sym last) ∙ part_held s2 tail (gate + 25 + n) 0 m w.tail_there (omega (arith, w.tail_size)) ∙ ap (λ (k : ℕ). take k tail) (sym few) in
     ap (λ (l : List ℕ). 1 ∷ l)
     (ap (part s3 (gate + 1)) long ∙ part-add s3 (gate + 1) 24 (n + m)
     ∙ ap₂ (λ (x y : List ℕ). x ++ y) first_part (ap (λ (x : ℕ). part s3 x (n + m)) behind ∙ part-add s3 (gate + 25) n m ∙ ap₂ (λ (x y : List ℕ). x ++ y) middle end))

@@ -84,9 +84,9 @@ gate_written gate file c rests staged torn =
     let least = size_least (drop gate file) in
     elim (cases_eq (slice_index c gate) 1) [
       | inl opens ↦
-        let shut : slice_index c (gate + length b) ≢ 1 = λ bad. staged.next (sym (torn.above (gate + size_of (drop gate file)) staged.within (omega arith)) ∙ ap (slice_index c) (sym end) ∙ bad) in
-        let more = grown gate file c b rests s (batch_is_behind gate file staged) (omega (arith, end, staged.within, torn.no_shorter)) (opened gate file c staged torn opens) shut in
-        inr (more.0, subst (λ (k : ℕ). RestsAt k c) end more.1)
+          let shut : slice_index c (gate + length b) ≢ 1 = λ bad. staged.next (sym (torn.above (gate + size_of (drop gate file)) staged.within (omega arith)) ∙ ap (slice_index c) (sym end) ∙ bad) in
+          let more = grown gate file c b rests s (batch_is_behind gate file staged) (omega (arith, end, staged.within, torn.no_shorter)) (opened gate file c staged torn opens) shut in
+          inr (more.0, subst (λ (k : ℕ). RestsAt k c) end more.1)
       | inr shut ↦ inl (kept_shut gate file c rests s shut, shut)
     ]
 
@@ -119,8 +119,8 @@ ready_behind g gate at len old new above ready torn follows =
     record {
       rests = rests_kept gate (g.seen old) (g.seen new) ready.rests first;
       crash = λ c left.
-        let s = behind (gate + 1) at len (g.seen old) (g.may_leave old) (g.may_leave new) (omega arith) ready.crash follows c left in
-        record { within = s.within; each = λ i low. s.each i low ∙ sym (first.each i low) };
+          let s = behind (gate + 1) at len (g.seen old) (g.may_leave old) (g.may_leave new) (omega arith) ready.crash follows c left in
+          record { within = s.within; each = λ i low. s.each i low ∙ sym (first.each i low) };
     }
 
 -- and what it stands for stays

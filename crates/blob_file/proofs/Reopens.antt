@@ -32,11 +32,10 @@ same_made gate file c rests s =
 
 -- a file with the header, whose batches have their sums, isn't refused for what it is
 pub not_refused : (clean : Type 0) (file : List ℕ) (before after : ℕ) (e : FileError) → clean → is_made file ≡ true → AreSummed (recovered file) → Refuses clean file before after e → (e ≡ NotBlobs → ⊥) × (e ≡ Damaged → ⊥)
-not_refused clean file before after e it made summed refuses =
-    (
-      λ is. both_ways (is_made file) (subst (Refuses clean file before after) is refuses it).0 made,
-      λ is. subst (Refuses clean file before after) is refuses it summed,
-    )
+not_refused clean file before after e it made summed refuses = (
+  λ is. both_ways (is_made file) (subst (Refuses clean file before after) is refuses it).0 made,
+  λ is. subst (Refuses clean file before after) is refuses it summed,
+)
 
 -- whatever is left where a batch is added has the sums that it says
 pub left_summed : (gate : ℕ) (old batch c : List ℕ) → AreSummed (recovered old) → IsLeft gate old batch c → AreSummed (recovered c)

@@ -43,12 +43,12 @@ gate_torn gate file c ends was torn =
       | inr shut ↦ same_end gate file c ends s (shut_end gate c shut)
       | inl opens ↦ elim (cases_lt gate (length file)) [
         | inl there ↦
-          let same : c ≡ file = ext_get_or 0 c file (omega (arith, torn.no_shorter, torn.no_longer)) λ i low. elim (cases_order i gate) [
-            | inl here ↦ rw here (opens ∙ sym (was there))
-            | inr (inl below) ↦ torn.below i (omega (arith, torn.no_longer)) below
-            | inr (inr above) ↦ torn.above i (omega (arith, torn.no_longer)) (omega arith)
-          ] in
-          ap recovered same
+            let same : c ≡ file = ext_get_or 0 c file (omega (arith, torn.no_shorter, torn.no_longer)) λ i low. elim (cases_order i gate) [
+              | inl here ↦ rw here (opens ∙ sym (was there))
+              | inr (inl below) ↦ torn.below i (omega (arith, torn.no_longer)) below
+              | inr (inr above) ↦ torn.above i (omega (arith, torn.no_longer)) (omega arith)
+            ] in
+            ap recovered same
         | inr end ↦ same_end gate file c ends s (short_shut (drop gate c) (omega (arith, length-drop gate c, torn.no_longer, ends.within)))
       ]
     ]

@@ -12,10 +12,7 @@ use std::alloc::Global;
 
 /// Lets the machine crash between two calls, and opens the file anew: it stands for the same
 /// batches.
-pub fn crash_and_open<D: Crash>(
-    alloc: Global,
-    log: Log<D>,
-) -> Result<Log<D>, (FileError, D)>
+pub fn crash_and_open<D: Crash>(alloc: Global, log: Log<D>) -> Result<Log<D>, (FileError, D)>
     requires open { IsOpen D.Disk log }
     requires whole { IsTrue log.is_whole }
     ensures found { IfOk result (λ again. IsClean D.Disk again.disk → recovered (D.seen again.disk) ≡ recovered (D.seen log.disk)) }

@@ -1,9 +1,9 @@
 //! Blobs by key, and names of roots, in one file that only grows, over any `Disk`.
 #![tactic(auto)]
 
+pub mod file_error;
 pub mod front;
 pub mod head;
-pub mod file_error;
 pub mod laws;
 pub mod log;
 pub mod opening;
@@ -14,3 +14,6 @@ pub mod staging;
 
 pub use file_error::FileError;
 pub use log::Log;
+
+#[cfg(test)]
+mod tests;

@@ -7,8 +7,8 @@ ghost use Rattle.sqlite_wal.specs.Format.{part};
 ghost use Rattle.sqlite_wal.specs.Reads.{IsClean, OnlyReads};
 ghost use Rattle.std.specs.Prelude.{Err, IfOk, IfErr, IsTrue, OnOk, Some, drop, length, ◌+◌, ◌<◌, ◌^◌, ◌≡◌, ◌≢◌, ◌≤◌};
 
-use crate::head::{HEAD, Head, batch_at};
 use crate::file_error::FileError;
+use crate::head::{HEAD, Head, batch_at};
 use sqlite_disk::{Disk, digest_of};
 use std::alloc::Global;
 

@@ -39,7 +39,11 @@ fn end_of(gate: usize, bodies: usize, rows: usize) -> Option<usize>
     ensures { SomeIff result (gate + 25 + bodies + rows < 2 ^ 64) (gate + 25 + bodies + rows) }
 {
     let end = gate as u128 + 25 + bodies as u128 + rows as u128;
-    if end < 1 << 64 { Some(end as usize) } else { None }
+    if end < 1 << 64 {
+        Some(end as usize)
+    } else {
+        None
+    }
 }
 
 /// What a flush writes beside the bodies, and where its batch ends.

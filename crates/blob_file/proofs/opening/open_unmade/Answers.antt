@@ -9,21 +9,21 @@ pub returns-in_err-create-clause-moment : goal.returns-in_err-create-clause-mome
 returns-in_err-create-clause-moment g c = record {
   clean = λ clean. c.was_never_made.ensures.same.clean (c.create.ensures.clean clean);
   crash = λ clean left may.
-    let unmade = sym (c.in_ok-was_never_made.ensures.found (c.create.ensures.clean clean)) ∙ c.if-not-branch.false in
-    let (before, had, step) = c.create.ensures.crash left may in
-    inr (created _ before left (unmade_small _ unmade) (c.requires.synced before (c.was_never_made.ensures.same.crash before had)) step);
+      let unmade = sym (c.in_ok-was_never_made.ensures.found (c.create.ensures.clean clean)) ∙ c.if-not-branch.false in
+      let (before, had, step) = c.create.ensures.crash left may in
+      inr (created _ before left (unmade_small _ unmade) (c.requires.synced before (c.was_never_made.ensures.same.crash before had)) step);
 }
 
 pub returns-clause-opens : goal.returns-clause-opens
 returns-clause-opens g c = record {
   usable = c.in_ok-create.ensures.usable;
   found = λ clean.
-    let unmade = sym (c.in_ok-was_never_made.ensures.found (c.create.ensures.clean clean)) ∙ c.if-not-branch.false in
-    ap recovered (c.in_ok-create.ensures.made clean) ∙ recovered_new ∙ sym (recovered_small _ (unmade_small _ unmade));
+      let unmade = sym (c.in_ok-was_never_made.ensures.found (c.create.ensures.clean clean)) ∙ c.if-not-branch.false in
+      ap recovered (c.in_ok-create.ensures.made clean) ∙ recovered_new ∙ sym (recovered_small _ (unmade_small _ unmade));
   ready = λ clean. ready_synced g.D.Disk 16 _ (subst (RestsAt 16) (sym (c.in_ok-create.ensures.made clean)) new_rests) c.in_ok-create.ensures.synced;
   summed = λ clean.
-    let unmade = sym (c.in_ok-was_never_made.ensures.found (c.create.ensures.clean clean)) ∙ c.if-not-branch.false in
-    none_summed _ (unmade_small _ unmade);
+      let unmade = sym (c.in_ok-was_never_made.ensures.found (c.create.ensures.clean clean)) ∙ c.if-not-branch.false in
+      none_summed _ (unmade_small _ unmade);
   known = λ clean. or_right _ _ (sym (c.in_ok-was_never_made.ensures.found (c.create.ensures.clean clean)) ∙ c.if-not-branch.false);
   untouched = λ clean place rests. absurd (both_ways _ (c.requires.other (c.was_never_made.ensures.same.clean (c.create.ensures.clean clean))) (rests_made place _ rests));
 }
@@ -32,7 +32,7 @@ pub returns-clause-moment : goal.returns-clause-moment
 returns-clause-moment g c = record {
   clean = λ clean. c.was_never_made.ensures.same.clean (c.create.ensures.clean clean);
   crash = λ clean left may.
-    let unmade = sym (c.in_ok-was_never_made.ensures.found (c.create.ensures.clean clean)) ∙ c.if-not-branch.false in
-    let (before, had, step) = c.create.ensures.crash left may in
-    inr (created _ before left (unmade_small _ unmade) (c.requires.synced before (c.was_never_made.ensures.same.crash before had)) step);
+      let unmade = sym (c.in_ok-was_never_made.ensures.found (c.create.ensures.clean clean)) ∙ c.if-not-branch.false in
+      let (before, had, step) = c.create.ensures.crash left may in
+      inr (created _ before left (unmade_small _ unmade) (c.requires.synced before (c.was_never_made.ensures.same.crash before had)) step);
 }

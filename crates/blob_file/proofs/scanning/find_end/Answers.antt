@@ -38,9 +38,9 @@ loop-head-preserved g c =
       same = reads_then g.D.Disk _ _ _ (reads_then g.D.Disk _ _ _ inv.same c.batch_at.ensures.same) c.read_rows.ensures.same;
       faults = c.in_ok-_rows.ensures.faults ∙ c.in_ok-head.ensures.faults ∙ inv.faults;
       stands = λ clean.
-        let before = c.read_rows.ensures.same.clean clean in
-        let found = found_here _ _ _ _ _ inv.same.seen (c.in_ok-head.ensures.found before) c.in-Some.is in
-        stands_next _ _ _ (inv.stands (c.batch_at.ensures.same.clean before)) (open_is _ _ found).0 (subst (λ (f : List ℕ). IsSummed (drop c.loop-head.at f)) (c.batch_at.ensures.same.seen ∙ inv.same.seen) (c.in_ok-_rows.ensures.summed clean)) (size_there _ _ found);
+          let before = c.read_rows.ensures.same.clean clean in
+          let found = found_here _ _ _ _ _ inv.same.seen (c.in_ok-head.ensures.found before) c.in-Some.is in
+          stands_next _ _ _ (inv.stands (c.batch_at.ensures.same.clean before)) (open_is _ _ found).0 (subst (λ (f : List ℕ). IsSummed (drop c.loop-head.at f)) (c.batch_at.ensures.same.seen ∙ inv.same.seen) (c.in_ok-_rows.ensures.summed clean)) (size_there _ _ found);
     }
 
 pub returns-clause-ends : goal.returns-clause-ends

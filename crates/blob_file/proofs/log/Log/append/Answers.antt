@@ -63,14 +63,14 @@ pub returns-clause-open : goal.returns-clause-open
 returns-clause-open g c = record {
   usable = λ _. c.in_ok-seal.ensures.usable;
   ready = λ _ clean.
-    let staged = c.seal.ensures.clean clean in
-    let planned = c.in_ok-plan.ensures.planned in
-    let is = is_new _ _ _ _ _ _ (c.in_ok-write_batch.ensures.batch staged) (c.deref.ensures.value ∙ planned.head) (c.deref-2.ensures.value ∙ planned.tail) in
-    subst (λ (k : ℕ). IsReady g.D.Disk k c.seal.new.disk) (next_gate _ _ _ _ (c.in_ok-write_batch.ensures.staged staged) is ∙ sym planned.end) (c.in_ok-seal.ensures.ready clean);
+      let staged = c.seal.ensures.clean clean in
+      let planned = c.in_ok-plan.ensures.planned in
+      let is = is_new _ _ _ _ _ _ (c.in_ok-write_batch.ensures.batch staged) (c.deref.ensures.value ∙ planned.head) (c.deref-2.ensures.value ∙ planned.tail) in
+      subst (λ (k : ℕ). IsReady g.D.Disk k c.seal.new.disk) (next_gate _ _ _ _ (c.in_ok-write_batch.ensures.staged staged) is ∙ sym planned.end) (c.in_ok-seal.ensures.ready clean);
   summed = λ _ clean.
-    let staged = c.seal.ensures.clean clean in
-    let planned = c.in_ok-plan.ensures.planned in
-    let is = is_new _ _ _ _ _ _ (c.in_ok-write_batch.ensures.batch staged) (c.deref.ensures.value ∙ planned.head) (c.deref-2.ensures.value ∙ planned.tail) in
-    let grown = c.in_ok-seal.ensures.acknowledged clean ∙ ap₂ (λ (x : List (List ℕ)) (y : List ℕ). x ++ y ∷ []) (c.write_batch.ensures.same staged) is in
-    subst AreSummed (sym grown) (summed_push _ _ (c.requires.open.summed c.if-not-self.false (c.write_batch.ensures.clean staged)) (new_summed _ _ (omega (arith, planned.fits)) (omega (arith, planned.fits)) planned.sum));
+      let staged = c.seal.ensures.clean clean in
+      let planned = c.in_ok-plan.ensures.planned in
+      let is = is_new _ _ _ _ _ _ (c.in_ok-write_batch.ensures.batch staged) (c.deref.ensures.value ∙ planned.head) (c.deref-2.ensures.value ∙ planned.tail) in
+      let grown = c.in_ok-seal.ensures.acknowledged clean ∙ ap₂ (λ (x : List (List ℕ)) (y : List ℕ). x ++ y ∷ []) (c.write_batch.ensures.same staged) is in
+      subst AreSummed (sym grown) (summed_push _ _ (c.requires.open.summed c.if-not-self.false (c.write_batch.ensures.clean staged)) (new_summed _ _ (omega (arith, planned.fits)) (omega (arith, planned.fits)) planned.sum));
 }
