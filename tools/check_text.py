@@ -37,7 +37,7 @@ ENUM = re.compile(r"\benum\s+\w+[^{;]*(?=\{)")
 USE = re.compile(r"\buse\s[^;]*;")
 # The case of an error, with what it is the case of. Others' enums have one of the same name.
 WANT = re.compile(r"(?:(\w+|>)\s*::\s*)?\bOutOfMemory\b")
-OTHER_ENUMS = {"ErrorCode", "ErrorKind", "OpenError", "StoreError"}
+OTHER_ENUMS = {"ErrorCode", "ErrorKind", "FileError", "OpenError", "StoreError"}
 # What stands behind a pattern: its end, other patterns beside it, and the arrow, or the `=` of a `let`.
 PATTERN = re.compile(r"[\s)]*(?:\|[^=;]*)?(?:=>|=(?!=)|\bif\b.*=>)")
 MATCHES = re.compile(r"\bmatches!(?=\()")

@@ -1,0 +1,12 @@
+pub mod BatchFiles
+pub mod BatchWrites
+pub mod FlushWrites
+pub mod Fronts
+pub mod Heads
+pub mod Indexes
+pub mod NewBatches
+pub mod Placing
+pub mod Reopens
+pub mod Repairs
+pub mod Scans
+pub mod Walks

@@ -1,0 +1,45 @@
+-- A log between its flushes, and what a flush does to it.
+use Rattle.std.specs.Prelude.{◌≡◌, ℕ, ◌+◌, ◌<◌, ◌≤◌, ◌^◌, false, Bool, IsTrue, ⊤, List, [], ◌∷◌, ◌++◌, length}
+use Rattle.sqlite_disk.specs.declared.Disk.{Ghosts}
+use Rattle.sqlite_disk.specs.Digest.{digest}
+use Rattle.sqlite_disk.specs.Disk.{MoreFaults}
+use Rattle.blob_file.specs.Format.{head_bytes, recovered, AreSummed}
+use Rattle.blob_file.specs.Log.{IsReady}
+use Rattle.blob_file.specs.Rows.{AreFormed}
+use Rattle.blob_file.specs.declared.file_error.FileError.{FileError}
+use Rattle.blob_file.specs.declared.file_error.FileError.TheVariants.{OutOfMemory, NotBlobs, Damaged, Failed, Shut, TooLong}
+use Rattle.blob_file.specs.declared.log.Log.{Log}
+use Rattle.blob_file.specs.declared.staging.Plan.{Plan}
+
+-- what is written of the batch at a gate, beside its bodies
+pub record IsPlan (gate bodies : ℕ) (rows : List ℕ) (plan : Plan) : Type 0 where
+  pub head : plan.head.items ≡ head_bytes bodies rows
+  pub tail : plan.tail.items ≡ rows ++ 0 ∷ []
+  pub end : plan.end ≡ gate + 25 + bodies + length rows
+  pub fits : gate + 25 + bodies + length rows < 2 ^ 64
+  pub sum : digest 0 rows < 2 ^ 64
+
+-- why there is no plan
+abbrev pub PlanFails : ℕ → ℕ → ℕ → FileError → Type 0
+PlanFails gate bodies rows OutOfMemory = ⊤
+PlanFails gate bodies rows TooLong = 2 ^ 64 ≤ gate + 25 + bodies + rows
+PlanFails gate bodies rows NotBlobs = ⊥
+PlanFails gate bodies rows Damaged = ⊥
+PlanFails gate bodies rows Failed = ⊥
+PlanFails gate bodies rows Shut = ⊥
+
+-- why a batch isn't added
+abbrev pub AppendFails : Bool → ℕ → ℕ → ℕ → FileError → Type 0
+AppendFails whole end before after OutOfMemory = ⊤
+AppendFails whole end before after TooLong = 2 ^ 64 ≤ end
+AppendFails whole end before after NotBlobs = ⊥
+AppendFails whole end before after Damaged = ⊥
+AppendFails whole end before after Failed = MoreFaults before after
+AppendFails whole end before after Shut = whole ≡ false
+
+-- The file is ready for the next flush, unless one failed.
+pub record IsOpen {D : Type 0} (g : Ghosts D) (log : Log D) : Type 0 where
+  pub usable : IsTrue log.is_whole → IsTrue (g.is_usable log.disk)
+  pub ready : IsTrue log.is_whole → IsTrue (g.is_clean log.disk) → IsReady g log.gate log.disk
+  pub summed : IsTrue log.is_whole → IsTrue (g.is_clean log.disk) → AreSummed (recovered (g.seen log.disk))
+  pub formed : IsTrue log.is_whole → IsTrue (g.is_clean log.disk) → AreFormed (recovered (g.seen log.disk))
