@@ -81,9 +81,9 @@ takes_next first bodies count i left rows rest old now new t more fits updates =
       low = omega (arith, t.low);
       sum = omega (arith, t.sum, total_next (count - i) m rest one, fits, t.low);
       places = λ q.
-        t.places q ∙ placed_next (first + (bodies - left)) (count - i) m rest now q one
-        ∙ sym (placed_same (first + (bodies - left) + size_of_row r) (rows_in m (drop 24 rest)) new (update nat_eq now r.key (Some (place_at (first + (bodies - left)) r))) updates q)
-        ∙ ap (λ (x : ℕ). placed x (rows_in m (drop 24 rest)) new q) on;
+          t.places q ∙ placed_next (first + (bodies - left)) (count - i) m rest now q one
+          ∙ sym (placed_same (first + (bodies - left) + size_of_row r) (rows_in m (drop 24 rest)) new (update nat_eq now r.key (Some (place_at (first + (bodies - left)) r))) updates q)
+          ∙ ap (λ (x : ℕ). placed x (rows_in m (drop 24 rest)) new q) on;
     }
 
 -- a row that says more bytes than are left says more than there are

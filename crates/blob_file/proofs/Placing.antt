@@ -16,9 +16,9 @@ EndsBy bound known = (q : ℕ) (p : Place) → known q ≡ Some p → p.at + siz
 update_ends : (bound : ℕ) (known : ℕ → Option Place) (key : ℕ) (it : Place) → EndsBy bound known → it.at + size_of_place it ≤ bound → EndsBy bound (update nat_eq known key (Some it))
 update_ends bound known key it all here q p found = elim (cases_Bool (nat_eq key q)) [
   | inl same ↦
-    let is : Some it ≡ Some p = sym (ap (λ t. cond t (Some it) (known q)) same) ∙ found in
-    let same_place : it ≡ p = (cc) in
-    rw (← same_place) here
+      let is : Some it ≡ Some p = sym (ap (λ t. cond t (Some it) (known q)) same) ∙ found in
+      let same_place : it ≡ p = (cc) in
+      rw (← same_place) here
   | inr other ↦ all q p (sym (ap (λ t. cond t (Some it) (known q)) other) ∙ found)
 ]
 

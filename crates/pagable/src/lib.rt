@@ -30,7 +30,7 @@ pub mod machine {
 /// Pins, readings and page-outs by a lent pager.
 pub mod paging {
     pub use pagable_calls::paging::{
-        deserialize_pagable_data, page_out_item, page_out_pending, pin, read,
+        CellPin, deserialize_pagable_data, page_out_item, page_out_pending, pin, pin_with_key, read,
     };
 }
 
@@ -134,7 +134,9 @@ pub mod storage {
     /// out by them; tables of claims, and the error of a page-out.
     pub mod traits {
         pub use pagable_core::{PagableStorage, Roots, Setting};
-        pub use pagable_load::{Access, WorkerAccess, pin_over, read_over};
+        pub use pagable_load::{
+            Access, CellPin, WorkerAccess, pin_over, pin_with_state_over, read_over,
+        };
         pub use pagable_locked::{
             ArcSerSlot, ClaimShare, Gate, Locked, NoGate, PageOutReport, SharedClaims, SlotTable,
             TableGuard,
@@ -201,7 +203,7 @@ pub use pagable_core::{
     PagableSerializerImpl, PagableStorage, References, Roots, SerializedData, SerializerForPaging,
     Setting, Sha256Key, WeighHash,
 };
-pub use pagable_load::{Access, WorkerAccess, pin_over, read_over};
+pub use pagable_load::{Access, CellPin, WorkerAccess, pin_over, pin_with_state_over, read_over};
 pub use pagable_locked::{
     ArcSerSlot, ClaimShare, Gate, InMemoryPagableStorage, Locked, NoGate, PagableStorageHandle,
     PageOutReport, SharedClaims, SlotTable, TableGuard,

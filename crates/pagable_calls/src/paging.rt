@@ -11,9 +11,10 @@ ghost use Rattle.pagable_pager_spec.specs.declared.handle_row.Owner.TheVariants 
 
 use pagable_codec::{Env, NodeSet, OfNode};
 use pagable_core::{PagableStorage, SerializedData};
+pub use pagable_load::CellPin;
 use pagable_load::read_over;
 use pagable_pageout::{LentTable, PageOutError, page_out_item_over, page_out_pending_over};
-pub use pagable_pager::pin;
+pub use pagable_pager::{pin, pin_with_key};
 use pagable_pager::{Lent, Pager};
 use pagable_value_spec::{DataKey, Error};
 use std::alloc::Global;

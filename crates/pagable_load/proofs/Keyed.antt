@@ -201,7 +201,7 @@ share_keyed v key t None (Some from) (Ok (Some y)) ended (at, same, some) = let 
 share_keyed v key t (Some x) (Some from) (Ok (Some y)) ended (at, same, some) =
     let one : y ≡ x = cc in
     subst (λ k. IsKeyed v k (v.node_type (arc_value y)) (arc_value y)) (sym at)
-        (subst (λ z. IsKeyed v key (v.node_type (arc_value z)) (arc_value z)) (sym one) (own_type ended))
+    (subst (λ z. IsKeyed v key (v.node_type (arc_value z)) (arc_value z)) (sym one) (own_type ended))
 
 -- the value that was taken out of a node
 pub held_keyed : {N T : Type 0} {v : Values N} {held : N → Option T} {key t : ℕ} {x : N} {a : T} → IsKeyed v key t x → Some a ≡ held x

@@ -355,7 +355,13 @@ impl<E: Env<Node: NodeSet<E>>, S: PagableStorage<E>> Pager<E, S> {
         };
         let node_type = value.node_type();
         let tables = &mut self.tables;
-        let ready = match load_end::prepare_end(tables, Owner::Caller, load, node_type, &references) {
+        let ready = match load_end::prepare_end(
+            tables,
+            Owner::Caller,
+            load,
+            node_type,
+            &references,
+        ) {
             Ok(ready) => ready,
             Err(EndFailure::Refused(e)) => return Err((e, Some(value))),
             Err(EndFailure::HandleLost(e)) => {
@@ -376,7 +382,14 @@ impl<E: Env<Node: NodeSet<E>>, S: PagableStorage<E>> Pager<E, S> {
         let lists = !self.storage.has_closed();
         let (tables, values) = (&mut self.tables, &mut self.values);
         Ok(load_end::install(
-            tables, values, Owner::Caller, load, node_type, references, ready, lists,
+            tables,
+            values,
+            Owner::Caller,
+            load,
+            node_type,
+            references,
+            ready,
+            lists,
         ))
     }
 
