@@ -3,9 +3,7 @@ pub mod BatchWrites
 pub mod FlushWrites
 pub mod Fronts
 pub mod Heads
-pub mod Indexes
 pub mod NewBatches
-pub mod Placing
 pub mod Reopens
 pub mod Repairs
 pub mod Scans

@@ -6,12 +6,11 @@ use Rattle.std.proofs.lemmas.Slice.Eq.{bytes_eq-Decides}
 use Rattle.blob_file.specs.Format.{header, is_made, recovered, AreSummed}
 use Rattle.blob_file.specs.Log.{IsLeft, RestsAt, SameBelow}
 use Rattle.blob_file.specs.Opening.{Refuses}
-use Rattle.blob_file.specs.Rows.{AreFormed}
 use Rattle.blob_file.specs.declared.file_error.FileError.{FileError}
 use Rattle.blob_file.specs.declared.file_error.FileError.TheVariants.{Damaged, NotBlobs}
 use Rattle.blob_file.proofs.BatchFiles.{same_front}
 use Rattle.blob_file.proofs.Repairs.{rests_made}
-use Rattle.blob_file.proofs.Scans.{formed_push, summed_push}
+use Rattle.blob_file.proofs.Scans.{summed_push}
 
 pub if_ok_both : {X Y : Type 0} (r : Result X Y) {P Q R : X → Type 0} → ((x : X) → P x → Q x → R x) → IfOk r P → IfOk r Q → IfOk r R
 if_ok_both (Ok x) f p q = f x p q
@@ -32,21 +31,15 @@ same_made gate file c rests s =
     (bytes_eq-Decides (take 16 c) header).1 (same_front gate 16 file c low (omega (arith, rests.within)) s ∙ (bytes_eq-Decides (take 16 file) header).0 (rests_made gate file rests))
 
 -- a file with the header, whose batches have their sums, isn't refused for what it is
-pub not_refused : (clean : Type 0) (file : List ℕ) (before after : ℕ) (e : FileError) → clean → is_made file ≡ true → AreSummed (recovered file) → AreFormed (recovered file) → Refuses clean file before after e → (e ≡ NotBlobs → ⊥) × (e ≡ Damaged → ⊥)
-not_refused clean file before after e it made summed formed refuses = (
+pub not_refused : (clean : Type 0) (file : List ℕ) (before after : ℕ) (e : FileError) → clean → is_made file ≡ true → AreSummed (recovered file) → Refuses clean file before after e → (e ≡ NotBlobs → ⊥) × (e ≡ Damaged → ⊥)
+not_refused clean file before after e it made summed refuses = (
   λ is. both_ways (is_made file) (subst (Refuses clean file before after) is refuses it).0 made,
-  λ is. subst (Refuses clean file before after) is refuses it (summed, formed),
+  λ is. subst (Refuses clean file before after) is refuses it summed,
 )
 
 -- whatever is left where a batch is added has the sums that it says
 pub left_summed : (gate : ℕ) (old batch c : List ℕ) → AreSummed (recovered old) → IsLeft gate old batch c → AreSummed (recovered c)
 left_summed gate old batch c summed left = elim left.stands [
   | inl was ↦ subst AreSummed (sym was) summed
-  | inr more ↦ subst AreSummed (sym more.0) (summed_push (recovered old) batch summed more.1.summed)
-]
-
-pub left_formed : (gate : ℕ) (old batch c : List ℕ) → AreFormed (recovered old) → IsLeft gate old batch c → AreFormed (recovered c)
-left_formed gate old batch c formed left = elim left.stands [
-  | inl was ↦ subst AreFormed (sym was) formed
-  | inr more ↦ subst AreFormed (sym more.0) (formed_push (recovered old) batch formed more.1.formed)
+  | inr more ↦ subst AreSummed (sym more.0) (summed_push (recovered old) batch summed more.1)
 ]
