@@ -55,15 +55,15 @@ total_next : (n m : ℕ) (rest : List ℕ) → n ≡ suc m → total (rows_in n 
 unfolding total
 total_next n m rest e = ap total (next_row n m rest e)
 
-total_none : (n : ℕ) (rest : List ℕ) → n ≡ 0 → total (rows_in n rest) ≡ 0
+pub total_none : (n : ℕ) (rest : List ℕ) → n ≡ 0 → total (rows_in n rest) ≡ 0
 unfolding total rows_in
 total_none n rest e = ap (λ (k : ℕ). total (rows_in k rest)) e
 
-placed_none : (at n : ℕ) (rest : List ℕ) (known : ℕ → Option Place) (q : ℕ) → n ≡ 0 → placed at (rows_in n rest) known q ≡ known q
+pub placed_none : (at n : ℕ) (rest : List ℕ) (known : ℕ → Option Place) (q : ℕ) → n ≡ 0 → placed at (rows_in n rest) known q ≡ known q
 unfolding placed rows_in
 placed_none at n rest known q e = ap (λ (k : ℕ). placed at (rows_in k rest) known q) e
 
-placed_next : (at n m : ℕ) (rest : List ℕ) (known : ℕ → Option Place) (q : ℕ) → n ≡ suc m → placed at (rows_in n rest) known q ≡ placed (at + size_of_row (row_of rest)) (rows_in m (drop 24 rest)) (update nat_eq known (row_of rest).key (Some (place_at at (row_of rest)))) q
+pub placed_next : (at n m : ℕ) (rest : List ℕ) (known : ℕ → Option Place) (q : ℕ) → n ≡ suc m → placed at (rows_in n rest) known q ≡ placed (at + size_of_row (row_of rest)) (rows_in m (drop 24 rest)) (update nat_eq known (row_of rest).key (Some (place_at at (row_of rest)))) q
 unfolding placed
 placed_next at n m rest known q e = ap (λ (rs : List Row). placed at rs known q) (next_row n m rest e)
 
@@ -81,9 +81,9 @@ takes_next first bodies count i left rows rest old now new t more fits updates =
       low = omega (arith, t.low);
       sum = omega (arith, t.sum, total_next (count - i) m rest one, fits, t.low);
       places = λ q.
-        t.places q ∙ placed_next (first + (bodies - left)) (count - i) m rest now q one
-        ∙ sym (placed_same (first + (bodies - left) + size_of_row r) (rows_in m (drop 24 rest)) new (update nat_eq now r.key (Some (place_at (first + (bodies - left)) r))) updates q)
-        ∙ ap (λ (x : ℕ). placed x (rows_in m (drop 24 rest)) new q) on;
+          t.places q ∙ placed_next (first + (bodies - left)) (count - i) m rest now q one
+          ∙ sym (placed_same (first + (bodies - left) + size_of_row r) (rows_in m (drop 24 rest)) new (update nat_eq now r.key (Some (place_at (first + (bodies - left)) r))) updates q)
+          ∙ ap (λ (x : ℕ). placed x (rows_in m (drop 24 rest)) new q) on;
     }
 
 -- a row that says more bytes than are left says more than there are

@@ -27,11 +27,11 @@ tail_last rows = get_or_push rows 0 0 (length rows) refl
 pub tail_front : (rows : List ℕ) → take (length (rows ++ 0 ∷ []) - 1) (rows ++ 0 ∷ []) ≡ rows
 tail_front rows = take_at rows (0 ∷ []) (length (rows ++ 0 ∷ []) - 1) (omega (arith, length_push rows 0))
 
-bodies_size : (bodies rows : List ℕ) → length bodies < 2 ^ 64 → number (new_batch bodies rows) 1 ≡ length bodies
+pub bodies_size : (bodies rows : List ℕ) → length bodies < 2 ^ 64 → number (new_batch bodies rows) 1 ≡ length bodies
 unfolding number part
 bodies_size bodies rows fits = from_le_bytes-to_le_bytes_8 (length bodies) fits
 
-rows_size : (bodies rows : List ℕ) → length rows < 2 ^ 64 → number (new_batch bodies rows) 9 ≡ length rows
+pub rows_size : (bodies rows : List ℕ) → length rows < 2 ^ 64 → number (new_batch bodies rows) 9 ≡ length rows
 unfolding number part
 rows_size bodies rows fits = from_le_bytes-to_le_bytes_8 (length rows) fits
 

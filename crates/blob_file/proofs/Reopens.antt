@@ -1,6 +1,6 @@
 -- What an open finds after a crash.
 use Rattle.std.proofs.Common.{◌≡◌, ◌⊎◌, inl, inr, refl, sym, ◌∙◌, ap, subst, ℕ, ◌+◌, ◌<◌, ◌≤◌, true, false, List, [], ◌∷◌, ◌++◌, length, take, arith}
-use Rattle.std.specs.Prelude.{Result, Ok, Err, IfOk, IfErr, OnOk, IsTrue, is_ok}
+use Rattle.std.specs.Prelude.{Result, Ok, Err, IfOk, IfErr, OnErr, OnOk, IsTrue, is_ok}
 use Rattle.std.proofs.lemmas.Bool.{both_ways}
 use Rattle.std.proofs.lemmas.Slice.Eq.{bytes_eq-Decides}
 use Rattle.blob_file.specs.Format.{header, is_made, recovered, AreSummed}
@@ -50,3 +50,7 @@ left_formed gate old batch c formed left = elim left.stands [
   | inl was ↦ subst AreFormed (sym was) formed
   | inr more ↦ subst AreFormed (sym more.0) (formed_push (recovered old) batch formed more.1.formed)
 ]
+
+pub on_err_any : {X Y P : Type 0} (r : Result X Y) → P → OnErr r P
+on_err_any (Ok x) p = tt
+on_err_any (Err y) p = p

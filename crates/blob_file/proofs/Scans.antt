@@ -183,12 +183,12 @@ stands_next file at n known new s opens sound size taken =
       summed = summed_push s.before b s.summed (subst IsSummed here (summed_alone (drop at file) opens sound.summed));
       formed = formed_push s.before b s.formed (subst IsFormed here (formed_alone (drop at file) opens sound.formed));
       places = λ key.
-        let rows : rows_of (drop at file) ≡ rows_of b = sym (rows_alone (drop at file) opens) ∙ ap rows_of here in
-        let place : at + 25 ≡ 16 + length (joined s.before) + 25 = omega (arith, place_of file at known s) in
-        taken key
-        ∙ placed_same (at + 25) (rows_of_batch (drop at file)) known (places_in 16 s.before nowhere) s.places key
-        ∙ ap₂ (λ (k : ℕ) (r : List ℕ). placed k (rows_in (length r / 24) r) (places_in 16 s.before nowhere) key) place rows
-        ∙ sym (places_in-push 16 s.before b nowhere key);
+          let rows : rows_of (drop at file) ≡ rows_of b = sym (rows_alone (drop at file) opens) ∙ ap rows_of here in
+          let place : at + 25 ≡ 16 + length (joined s.before) + 25 = omega (arith, place_of file at known s) in
+          taken key
+          ∙ placed_same (at + 25) (rows_of_batch (drop at file)) known (places_in 16 s.before nowhere) s.places key
+          ∙ ap₂ (λ (k : ℕ) (r : List ℕ). placed k (rows_in (length r / 24) r) (places_in 16 s.before nowhere) key) place rows
+          ∙ sym (places_in-push 16 s.before b nowhere key);
     }
 
 -- the batches so far, and those of the rest

@@ -11,6 +11,10 @@ use Rattle.blob_file.specs.declared.rows.Place.{Place}
 unfoldable pub row_of : List ℕ → Row
 row_of b = record { key = from_le_bytes w128 (part b 0 16); children = from_le_bytes w32 (part b 16 4); bytes = from_le_bytes w32 (part b 20 4) }
 
+-- the bytes of a row
+abbrev pub row_bytes : Row → List ℕ
+row_bytes r = to_le_bytes w128 r.key ++ (to_le_bytes w32 r.children ++ to_le_bytes w32 r.bytes)
+
 -- n rows, one behind the other
 unfoldable pub rows_in : ℕ → List ℕ → List Row
 rows_in zero b = []

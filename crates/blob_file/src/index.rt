@@ -57,12 +57,7 @@ fn take_all(
 ///
 /// `OutOfMemory`, or `Damaged` if the rows aren't whole, or the bodies not as long as the rows say.
 /// Some of the rows may have been taken.
-pub fn take_rows(
-    index: &mut Index,
-    rows: &[u8],
-    first: usize,
-    bodies: u64,
-) -> Result<(), FileError>
+pub fn take_rows(index: &mut Index, rows: &[u8], first: usize, bodies: u64) -> Result<(), FileError>
     requires fits { first + bodies < 2 ^ 64 }
     ensures placed { OnOk result ((q : ℕ) → get nat_eq index.new q
         ≡ placed first (rows_in (length rows.now / 24) rows.now) (get nat_eq index.old) q) }

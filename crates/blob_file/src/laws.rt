@@ -13,7 +13,10 @@ use std::alloc::Global;
 
 /// Lets the machine crash between two calls, and opens the file anew: it stands for the same
 /// batches.
-pub fn crash_and_open<D: Crash>(alloc: Global, log: Log<D>) -> Result<(Log<D>, Index), (FileError, D)>
+pub fn crash_and_open<D: Crash>(
+    alloc: Global,
+    log: Log<D>,
+) -> Result<(Log<D>, Index), (FileError, D)>
     requires open { IsOpen D.Disk log }
     requires whole { IsTrue log.is_whole }
     ensures found { IfOk result (λ again. IsClean D.Disk again.0.disk → recovered (D.seen again.0.disk) ≡ recovered (D.seen log.disk)) }

@@ -5,6 +5,7 @@ pub mod file;
 pub mod file_error;
 pub mod front;
 pub mod head;
+pub mod holding;
 pub mod index;
 pub mod laws;
 pub mod log;

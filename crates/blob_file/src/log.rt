@@ -68,6 +68,7 @@ impl<D: Disk> Log<D> {
         ensures appended { OnOk result (IsClean D.Disk self.new.disk
             → recovered (D.seen self.new.disk) ≡ recovered (D.seen self.old.disk) ++ new_batch bodies.now rows.now ∷ []) }
         ensures whole { OnOk result (IsTrue self.new.is_whole) }
+        ensures gate_stays { OnErr result (self.new.gate ≡ self.old.gate) }
         ensures gate { OnOk result (self.new.gate ≡ self.old.gate + 25 + length bodies.now + length rows.now) }
 
         // A crash in it leaves the old batches, or these and the new one.

@@ -67,11 +67,7 @@ fn open_unmade<D: Disk>(disk: &mut D, len: usize, index: &Index) -> Result<usize
 ///
 /// `OutOfMemory`, `NotBlobs` and `Damaged` leave each byte as it was, and `Failed` leaves a file
 /// that stands for the same batches.
-pub fn prepare<D: Disk>(
-    alloc: Global,
-    disk: &mut D,
-    index: &mut Index,
-) -> Result<usize, FileError>
+pub fn prepare<D: Disk>(alloc: Global, disk: &mut D, index: &mut Index) -> Result<usize, FileError>
     requires usable { IsTrue (D.is_usable disk.old) }
     requires empty { (key : ℕ) → get nat_eq index.old key ≡ None }
     ensures opens { IfOk result (λ gate. Opens D.Disk disk.old gate (get nat_eq index.new) disk.new) }

@@ -25,11 +25,11 @@ returns-clause-opens g c = record {
       let unmade = sym (c.in_ok-was_never_made.ensures.found (c.create.ensures.clean clean)) ∙ c.if-not-branch.false in
       none_summed _ (unmade_small _ unmade);
   formed = λ clean.
-    let unmade = sym (c.in_ok-was_never_made.ensures.found (c.create.ensures.clean clean)) ∙ c.if-not-branch.false in
-    none_formed _ (unmade_small _ unmade);
+      let unmade = sym (c.in_ok-was_never_made.ensures.found (c.create.ensures.clean clean)) ∙ c.if-not-branch.false in
+      none_formed _ (unmade_small _ unmade);
   places = λ clean key.
-    let unmade = sym (c.in_ok-was_never_made.ensures.found (c.create.ensures.clean clean)) ∙ c.if-not-branch.false in
-    c.requires.empty key ∙ sym (none_placed _ key (unmade_small _ unmade));
+      let unmade = sym (c.in_ok-was_never_made.ensures.found (c.create.ensures.clean clean)) ∙ c.if-not-branch.false in
+      c.requires.empty key ∙ sym (none_placed _ key (unmade_small _ unmade));
   kind = λ clean. or_right _ _ (sym (c.in_ok-was_never_made.ensures.found (c.create.ensures.clean clean)) ∙ c.if-not-branch.false);
   untouched = λ clean place rests. absurd (both_ways _ (c.requires.other (c.was_never_made.ensures.same.clean (c.create.ensures.clean clean))) (rests_made place _ rests));
 }

@@ -40,10 +40,10 @@ loop-head-preserved g c =
       same = reads_then g.D.Disk _ _ _ (reads_then g.D.Disk _ _ _ inv.same c.batch_at.ensures.same) c.take_batch.ensures.same;
       faults = c.in_ok-take_batch.ensures.faults ∙ c.in_ok-head.ensures.faults ∙ inv.faults;
       stands = λ clean.
-        let before = c.take_batch.ensures.same.clean clean in
-        let found = found_here _ _ _ _ _ inv.same.seen (c.in_ok-head.ensures.found before) c.in-Some.is in
-        stands_next _ _ _ _ _ (inv.stands (c.batch_at.ensures.same.clean before)) (open_is _ _ found).0 (subst (λ (f : List ℕ). IsSound (drop c.loop-head.at f)) seen (c.in_ok-take_batch.ensures.sound clean)) (size_there _ _ found)
-        (λ key. c.in_ok-take_batch.ensures.places clean key ∙ ap (λ (f : List ℕ). placed (c.loop-head.at + 25) (rows_of_batch (drop c.loop-head.at f)) (get nat_eq c.loop-head.index) key) seen);
+          let before = c.take_batch.ensures.same.clean clean in
+          let found = found_here _ _ _ _ _ inv.same.seen (c.in_ok-head.ensures.found before) c.in-Some.is in
+          stands_next _ _ _ _ _ (inv.stands (c.batch_at.ensures.same.clean before)) (open_is _ _ found).0 (subst (λ (f : List ℕ). IsSound (drop c.loop-head.at f)) seen (c.in_ok-take_batch.ensures.sound clean)) (size_there _ _ found)
+          (λ key. c.in_ok-take_batch.ensures.places clean key ∙ ap (λ (f : List ℕ). placed (c.loop-head.at + 25) (rows_of_batch (drop c.loop-head.at f)) (get nat_eq c.loop-head.index) key) seen);
     }
 
 pub returns-clause-ends : goal.returns-clause-ends
