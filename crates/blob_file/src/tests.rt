@@ -1,6 +1,6 @@
 use crate::laws::append_crash_and_open;
 use crate::log::Log;
-use crate::{BlobFile, FileError};
+use crate::{BlobFile, FileError, FoundBlob};
 use sqlite_disk::{Disk, Fuse, Memory};
 use std::alloc::Global;
 use std::test::Fail;
@@ -18,6 +18,14 @@ const ONE: &[u8] =
 /// The same, but that the row tells of five bytes, with its right sum.
 const ODD: &[u8] =
     b"pagable blobs 2\n\x01\x04\0\0\0\0\0\0\0\x18\0\0\0\0\0\0\0\xc6B\x08\xa1\x90\x5cj5body\x07\0\0\0\0\0\0\0\0\0\0\0\0\0\0\0\0\0\0\0\x05\0\0\0\0";
+
+/// Whether this is the blob "body", without child keys.
+fn is_body(found: &Option<FoundBlob>) -> bool {
+    match found {
+        Some(blob) => blob.children == 0 && blob.body.as_slice() == b"body".as_slice(),
+        None => false,
+    }
+}
 
 /// What an open of a file of these bytes leaves of them, with the gate or the error.
 fn open_bytes(alloc: Global, bytes: &[u8]) -> Result<(Vec<u8>, Result<usize, FileError>), Fail> {
