@@ -161,15 +161,11 @@ fn a_blob_is_held_and_flushed(rt: HostRuntime) -> Result<(), Fail> {
     file.add(7, 0, b"body")?;
     assert_eq!(rt; file.log.disk.bytes(), NEW);
     let held = file.fetch(alloc, 7)?;
-    assert!(rt;
-        matches!(&held, Some(blob) if blob.children == 0 && blob.body.as_slice() == b"body")
-    );
+    assert!(rt; is_body(&held));
     file.flush(alloc)?;
     assert_eq!(rt; file.log.disk.bytes(), ONE);
     let flushed = file.fetch(alloc, 7)?;
-    assert!(rt;
-        matches!(&flushed, Some(blob) if blob.children == 0 && blob.body.as_slice() == b"body")
-    );
+    assert!(rt; is_body(&flushed));
     assert!(rt; file.fetch(alloc, 8)?.is_none());
     Ok(())
 }
@@ -184,9 +180,7 @@ fn a_blob_is_found_again(rt: HostRuntime) -> Result<(), Fail> {
         Err((error, _)) => return Err(error.into()),
     };
     let found = file.fetch(alloc, 7)?;
-    assert!(rt;
-        matches!(&found, Some(blob) if blob.children == 0 && blob.body.as_slice() == b"body")
-    );
+    assert!(rt; is_body(&found));
     assert!(rt; file.find(8).is_none());
     Ok(())
 }
