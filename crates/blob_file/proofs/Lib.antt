@@ -3,8 +3,12 @@ pub mod BatchWrites
 pub mod FlushWrites
 pub mod Fronts
 pub mod Heads
+pub mod Indexes
+pub mod KeyBytes
 pub mod NewBatches
+pub mod Placing
 pub mod Reopens
 pub mod Repairs
 pub mod Scans
+pub mod Settling
 pub mod Walks

@@ -8,7 +8,8 @@ use Rattle.sqlite_disk.specs.declared.Disk.{Ghosts}
 use Rattle.sqlite_disk.specs.Digest.{digest}
 use Rattle.sqlite_wal.specs.Format.{part}
 use Rattle.blob_file.specs.Format.{head_bytes, number, size_of, rows_of, recovered, IsSummed}
-use Rattle.blob_file.specs.Log.{SameBelow, IsReady, IsStaged, IsOldOrNew, IsLeft, batch_behind, batch_of, new_batch}
+use Rattle.blob_file.specs.Log.{SameBelow, IsReady, IsStaged, IsOldOrNew, IsLeft, IsSound, batch_behind, batch_of, new_batch}
+use Rattle.blob_file.specs.Rows.{AreWhole}
 use Rattle.blob_file.proofs.BatchFiles.{kept, less_below}
 use Rattle.blob_file.proofs.FlushWrites.{same_then, length_behind}
 
@@ -26,11 +27,11 @@ tail_last rows = get_or_push rows 0 0 (length rows) refl
 pub tail_front : (rows : List ℕ) → take (length (rows ++ 0 ∷ []) - 1) (rows ++ 0 ∷ []) ≡ rows
 tail_front rows = take_at rows (0 ∷ []) (length (rows ++ 0 ∷ []) - 1) (omega (arith, length_push rows 0))
 
-bodies_size : (bodies rows : List ℕ) → length bodies < 2 ^ 64 → number (new_batch bodies rows) 1 ≡ length bodies
+pub bodies_size : (bodies rows : List ℕ) → length bodies < 2 ^ 64 → number (new_batch bodies rows) 1 ≡ length bodies
 unfolding number part
 bodies_size bodies rows fits = from_le_bytes-to_le_bytes_8 (length bodies) fits
 
-rows_size : (bodies rows : List ℕ) → length rows < 2 ^ 64 → number (new_batch bodies rows) 9 ≡ length rows
+pub rows_size : (bodies rows : List ℕ) → length rows < 2 ^ 64 → number (new_batch bodies rows) 9 ≡ length rows
 unfolding number part
 rows_size bodies rows fits = from_le_bytes-to_le_bytes_8 (length rows) fits
 
@@ -52,6 +53,12 @@ new_summed bodies rows few short fits = sum_there bodies rows fits ∙ ap (diges
 pub length-new_batch : (bodies rows : List ℕ) → length (new_batch bodies rows) ≡ 25 + length bodies + length rows
 length-new_batch bodies rows = omega (arith, length-append bodies rows)
 
+pub new_sound : (bodies rows : List ℕ) → length bodies < 2 ^ 64 → length rows < 2 ^ 64 → digest 0 rows < 2 ^ 64 → AreWhole (length bodies) rows → IsSound (new_batch bodies rows)
+new_sound bodies rows few short fits whole = record {
+  summed = new_summed bodies rows few short fits;
+  formed = subst (AreWhole (number (new_batch bodies rows) 1)) (sym (rows_of-new_batch bodies rows few short)) (subst (λ (n : ℕ). AreWhole n rows) (sym (bodies_size bodies rows few)) whole);
+}
+
 -- a crash of a file that is ready
 pub left_ready : {D : Type 0} (g : Ghosts D) (gate : ℕ) (old new : D) (batch : List ℕ) → recovered (g.seen new) ≡ recovered (g.seen old) → SameBelow (gate + 1) (g.seen old) (g.seen new) → IsReady g gate new → (c : List ℕ) → g.may_leave new c → IsLeft gate (g.seen old) batch c
 left_ready g gate old new batch same below ready c left = record {
@@ -60,7 +67,7 @@ left_ready g gate old new batch same below ready c left = record {
 }
 
 -- a crash while the gate is opened
-pub left_sealed : (gate : ℕ) (old staged c batch : List ℕ) → recovered staged ≡ recovered old → batch_behind gate staged ≡ batch → IsSummed batch → SameBelow (gate + 1) old staged → SameBelow gate staged c → IsOldOrNew (recovered staged) (batch_behind gate staged) c → IsLeft gate old batch c
+pub left_sealed : (gate : ℕ) (old staged c batch : List ℕ) → recovered staged ≡ recovered old → batch_behind gate staged ≡ batch → IsSound batch → SameBelow (gate + 1) old staged → SameBelow gate staged c → IsOldOrNew (recovered staged) (batch_behind gate staged) c → IsLeft gate old batch c
 left_sealed gate old staged c batch same is summed first below stands = record {
   stands = elim stands [
     | inl was ↦ inl (was ∙ same)

@@ -1,5 +1,5 @@
 -- What the end of a file is made to be at an open, and what a crash in it leaves.
-use Rattle.std.proofs.Common.{◌≡◌, ◌≢◌, ◌⊎◌, inl, inr, refl, sym, ◌∙◌, ap, subst, ℕ, zero, suc, ◌+◌, ◌-◌, ◌<◌, ◌≤◌, Bool, true, false, if◌then◌else◌, List, [], ◌∷◌, ◌++◌, length, take, drop, arith, append_assoc, append-nil, length-append, length-drop, length-take, take-append-drop, take-take, ext_get_or, get_or-drop, add-zero}
+use Rattle.std.proofs.Common.{◌≡◌, ◌≢◌, ◌⊎◌, inl, inr, refl, sym, ◌∙◌, ap, subst, ℕ, zero, suc, ◌+◌, ◌-◌, ◌<◌, ◌≤◌, Bool, true, false, if◌then◌else◌, List, [], ◌∷◌, ◌++◌, length, take, drop, arith, append_assoc, append-nil, length-append, length-drop, length-take, take-append-drop, take-take, ext_get_or, get_or-drop, add-zero, Option, None}
 use Rattle.std.specs.Prelude.{slice_index, IsTrue, MatchBool}
 use Rattle.std.proofs.lemmas.Bool.{and_parts, cases_eq, cases_lt, cases_order, cases_Bool, leb-true}
 use Rattle.std.proofs.lemmas.Slice.Eq.{bytes_eq-Decides}
@@ -8,6 +8,7 @@ use Rattle.sqlite_disk.specs.Disk.{Holds, Torn, Only}
 use Rattle.sqlite_wal.specs.Gate.{IsShut}
 use Rattle.blob_file.specs.Format.{header, new_file, is_open, is_made, is_unmade, batches, recovered, joined, AreBatches, AreSummed}
 use Rattle.blob_file.specs.Log.{EndsAt, RestsAt, SameBelow, IsReady}
+use Rattle.blob_file.specs.Rows.{places_in, nowhere, AreFormed}
 use Rattle.blob_file.proofs.BatchFiles.{batches-joined, few_batches, recovered_of, same_front, shut_batch}
 use Rattle.blob_file.proofs.FlushWrites.{same_all}
 use Rattle.blob_file.proofs.Heads.{short_shut}
@@ -118,3 +119,10 @@ none_summed file small = subst AreSummed (sym (recovered_small file small)) tt
 
 pub recovered_new : recovered new_file ≡ []
 recovered_new = recovered_small new_file (omega arith)
+
+pub none_formed : (file : List ℕ) → length file ≤ 17 → AreFormed (recovered file)
+none_formed file small = subst AreFormed (sym (recovered_small file small)) tt
+
+pub none_placed : (file : List ℕ) (key : ℕ) → length file ≤ 17 → places_in 16 (recovered file) nowhere key ≡ None
+unfolding places_in
+none_placed file key small = ap (λ (l : List (List ℕ)). places_in 16 l nowhere key) (recovered_small file small)

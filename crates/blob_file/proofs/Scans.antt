@@ -1,5 +1,5 @@
 -- The walk over the batches of a file: what one step finds, and what the end says of the whole.
-use Rattle.std.proofs.Common.{◌≡◌, ◌≢◌, inl, inr, refl, sym, ◌∙◌, ap, ap₂, subst, ℕ, zero, suc, ◌+◌, ◌-◌, ◌<◌, ◌≤◌, Bool, true, false, if◌then◌else◌, ◌&&◌, List, [], ◌∷◌, ◌++◌, length, take, drop, arith, append_assoc, append-nil, length-append, length-take, length-drop, take-append-drop, take-add, drop-drop, get_or-take, Option, Some, None}
+use Rattle.std.proofs.Common.{◌≡◌, ◌≢◌, inl, inr, refl, sym, ◌∙◌, ap, ap₂, subst, ℕ, zero, suc, ◌+◌, ◌-◌, ◌/◌, ◌<◌, ◌≤◌, Bool, true, false, if◌then◌else◌, ◌&&◌, List, [], ◌∷◌, ◌++◌, length, take, drop, arith, append_assoc, append-nil, length-append, length-take, length-drop, take-append-drop, take-add, drop-drop, get_or-take, Option, Some, None}
 use Rattle.std.specs.Prelude.{slice_index, IsTrue}
 use Rattle.std.specs.Str.{bytes_eq}
 use Rattle.std.proofs.lemmas.Bool.{cases_Bool, and_parts, eqb-true, leb-true}
@@ -9,7 +9,10 @@ use Rattle.sqlite_disk.specs.Digest.{digest}
 use Rattle.sqlite_wal.specs.Format.{part}
 use Rattle.sqlite_wal.proofs.PartLemmas.{held_is_part}
 use Rattle.blob_file.specs.Format.{header, number, size_of, head_of, is_open, open_head, batches, recovered, joined, rows_of, is_made, IsBatch, AreBatches, IsSummed, AreSummed}
-use Rattle.blob_file.specs.Log.{EndsAt}
+use Rattle.blob_file.specs.Log.{EndsAt, IsSound}
+use Rattle.blob_file.specs.Rows.{rows_in, placed, places_in, nowhere, rows_of_batch, IsFormed, AreFormed, AreWhole}
+use Rattle.blob_file.specs.declared.rows.Place.{Place}
+use Rattle.blob_file.proofs.Indexes.{placed_same}
 use Rattle.blob_file.specs.Opening.{StandsTo}
 use Rattle.blob_file.specs.declared.head.Head.{Head}
 use Rattle.blob_file.proofs.BatchFiles.{part_front, number_front, size_of-front, batches-joined, few_batches, joined-push, all-push, recovered_of, size_least}
@@ -117,19 +120,59 @@ unfolding batches
 batches_next n r opens = ap (λ (t : Bool). if t then take (size_of r) r ∷ batches n (drop (size_of r) r) else []) opens
 
 -- the walk begins behind the header
-pub stands_start : (file : List ℕ) → is_made file ≡ true → 16 ≤ length file → StandsTo 16 file
-unfolding joined
-stands_start file made long = record {
+pub stands_start : (file : List ℕ) → is_made file ≡ true → 16 ≤ length file → (known : ℕ → Option Place) → ((key : ℕ) → known key ≡ None) → StandsTo 16 file known
+unfolding joined places_in
+stands_start file made long known empty = record {
   within = long;
   before = [];
   front = (bytes_eq-Decides (take 16 file) header).0 made;
   whole = tt;
   summed = tt;
+  formed = tt;
+  places = empty;
 }
 
+-- the rows of an open batch, alone and in the file
+rows_alone : (b : List ℕ) → is_open b ≡ true → rows_of (take (size_of b) b) ≡ rows_of b
+rows_alone b opens = sym (rows_of-front (take (size_of b) b) (drop (size_of b) b) (batch_there b opens)) ∙ ap rows_of (front_again b)
+
+bodies_alone : (b : List ℕ) → is_open b ≡ true → number (take (size_of b) b) 1 ≡ number b 1
+unfolding size_of
+bodies_alone b opens =
+    let long = length_front b opens in
+    sym (number_front (take (size_of b) b) (drop (size_of b) b) 1 (omega (arith, long, size_least b))) ∙ ap (λ (x : List ℕ). number x 1) (front_again b)
+
+pub formed_alone : (b : List ℕ) → is_open b ≡ true → IsFormed b → IsFormed (take (size_of b) b)
+formed_alone b opens formed = subst (AreWhole (number (take (size_of b) b) 1)) (sym (rows_alone b opens)) (subst (λ (n : ℕ). AreWhole n (rows_of b)) (sym (bodies_alone b opens)) formed)
+
+pub formed_behind : (b : List ℕ) → is_open b ≡ true → IsFormed (take (size_of b) b) → IsFormed b
+formed_behind b opens formed = subst (AreWhole (number b 1)) (rows_alone b opens) (subst (λ (n : ℕ). AreWhole n (rows_of (take (size_of b) b))) (bodies_alone b opens) formed)
+
+pub formed_push : (bs : List (List ℕ)) (b : List ℕ) → AreFormed bs → IsFormed b → AreFormed (bs ++ b ∷ [])
+formed_push [] b all it = (it, tt)
+formed_push (x ∷ bs) b all it = (all.0, formed_push bs b all.1 it)
+
+pub formed_next : (bs : List (List ℕ)) (b : List ℕ) (more : List (List ℕ)) → AreFormed (bs ++ b ∷ more) → IsFormed b
+formed_next [] b more all = all.0
+formed_next (x ∷ bs) b more all = formed_next bs b more all.1
+
+-- the places of one batch more
+pub places_in-push : (a : ℕ) (bs : List (List ℕ)) (b : List ℕ) (known : ℕ → Option Place) (q : ℕ) → places_in a (bs ++ b ∷ []) known q ≡ placed (a + length (joined bs) + 25) (rows_of_batch b) (places_in a bs known) q
+unfolding places_in joined
+places_in-push a [] b known q =
+    let here : a + 25 ≡ a + 0 + 25 = omega arith in
+    ap (λ (k : ℕ). placed k (rows_of_batch b) known q) here
+places_in-push a (x ∷ bs) b known q =
+    let there : a + length x + length (joined bs) + 25 ≡ a + length (x ++ joined bs) + 25 = omega (arith, length-append x (joined bs)) in
+    places_in-push (a + length x) bs b (placed (a + 25) (rows_of_batch x) known) q
+    ∙ ap (λ (k : ℕ). placed k (rows_of_batch b) (places_in (a + length x) bs (placed (a + 25) (rows_of_batch x) known)) q) there
+
+place_of : (file : List ℕ) (at : ℕ) (known : ℕ → Option Place) → (s : StandsTo at file known) → at ≡ 16 + length (joined s.before)
+place_of file at known s = omega (arith, ap length s.front, length-append header (joined s.before), length-take at file, s.within)
+
 -- a walk goes on behind an open batch with the sum that it says
-pub stands_next : (file : List ℕ) (at n : ℕ) → StandsTo at file → is_open (drop at file) ≡ true → IsSummed (drop at file) → n ≡ size_of (drop at file) → StandsTo (at + n) file
-stands_next file at n s opens summed size =
+pub stands_next : (file : List ℕ) (at n : ℕ) → (known new : ℕ → Option Place) → StandsTo at file known → is_open (drop at file) ≡ true → IsSound (drop at file) → n ≡ size_of (drop at file) → ((key : ℕ) → new key ≡ placed (at + 25) (rows_of_batch (drop at file)) known key) → StandsTo (at + n) file new
+stands_next file at n known new s opens sound size taken =
     let b = take n (drop at file) in
     let here : take (size_of (drop at file)) (drop at file) ≡ b = ap (λ (k : ℕ). take k (drop at file)) (sym size) in
     record {
@@ -137,51 +180,65 @@ stands_next file at n s opens summed size =
       before = s.before ++ b ∷ [];
       front = take-add at n file ∙ ap (λ (x : List ℕ). x ++ b) s.front ∙ append_assoc header (joined s.before) b ∙ ap (λ (l : List ℕ). header ++ l) (sym (joined-push s.before b));
       whole = all-push s.before b s.whole (subst IsBatch here (batch_there (drop at file) opens));
-      summed = summed_push s.before b s.summed (subst IsSummed here (summed_alone (drop at file) opens summed));
+      summed = summed_push s.before b s.summed (subst IsSummed here (summed_alone (drop at file) opens sound.summed));
+      formed = formed_push s.before b s.formed (subst IsFormed here (formed_alone (drop at file) opens sound.formed));
+      places = λ key.
+          let rows : rows_of (drop at file) ≡ rows_of b = sym (rows_alone (drop at file) opens) ∙ ap rows_of here in
+          let place : at + 25 ≡ 16 + length (joined s.before) + 25 = omega (arith, place_of file at known s) in
+          taken key
+          ∙ placed_same (at + 25) (rows_of_batch (drop at file)) known (places_in 16 s.before nowhere) s.places key
+          ∙ ap₂ (λ (k : ℕ) (r : List ℕ). placed k (rows_in (length r / 24) r) (places_in 16 s.before nowhere) key) place rows
+          ∙ sym (places_in-push 16 s.before b nowhere key);
     }
 
-place_of : (file : List ℕ) (at : ℕ) → (s : StandsTo at file) → at ≡ 16 + length (joined s.before)
-place_of file at s = omega (arith, ap length s.front, length-append header (joined s.before), length-take at file, s.within)
-
 -- the batches so far, and those of the rest
-pub recovered_so_far : (file : List ℕ) (at m : ℕ) → (s : StandsTo at file) → length file ≡ length s.before + m → recovered file ≡ s.before ++ batches m (drop at file)
-recovered_so_far file at m s e =
+pub recovered_so_far : (file : List ℕ) (at m : ℕ) (known : ℕ → Option Place) → (s : StandsTo at file known) → length file ≡ length s.before + m → recovered file ≡ s.before ++ batches m (drop at file)
+recovered_so_far file at m known s e =
     let r = drop at file in
     let parts : file ≡ header ++ (joined s.before ++ r) = sym (take-append-drop at file) ∙ ap (λ (l : List ℕ). l ++ r) s.front ∙ append_assoc header (joined s.before) r in
     ap recovered parts ∙ recovered_of (joined s.before ++ r) ∙ batches-joined s.before _ m r (ap length (sym parts) ∙ e) s.whole
 
-few_so_far : (file : List ℕ) (at : ℕ) → (s : StandsTo at file) → length s.before + 16 ≤ at
-few_so_far file at s = omega (arith, place_of file at s, few_batches s.before s.whole)
+few_so_far : (file : List ℕ) (at : ℕ) (known : ℕ → Option Place) → (s : StandsTo at file known) → length s.before + 16 ≤ at
+few_so_far file at known s = omega (arith, place_of file at known s, few_batches s.before s.whole)
 
 -- where no open batch stands, the walk has found all
-pub found_all : (file : List ℕ) (at : ℕ) → (s : StandsTo at file) → is_open (drop at file) ≡ false → recovered file ≡ s.before
-found_all file at s shut =
+pub found_all : (file : List ℕ) (at : ℕ) (known : ℕ → Option Place) → (s : StandsTo at file known) → is_open (drop at file) ≡ false → recovered file ≡ s.before
+found_all file at known s shut =
     let m = length file - length s.before in
-    let few = few_so_far file at s in
-    recovered_so_far file at m s (omega (arith, s.within)) ∙ ap (λ (l : List (List ℕ)). s.before ++ l) (batches_end m (drop at file) shut) ∙ append-nil s.before
+    let few = few_so_far file at known s in
+    recovered_so_far file at m known s (omega (arith, s.within)) ∙ ap (λ (l : List (List ℕ)). s.before ++ l) (batches_end m (drop at file) shut) ∙ append-nil s.before
 
-pub ends_here : (file : List ℕ) (at : ℕ) → StandsTo at file → is_open (drop at file) ≡ false → EndsAt at file
-ends_here file at s shut =
-    let all = found_all file at s shut in
+pub ends_here : (file : List ℕ) (at : ℕ) (known : ℕ → Option Place) → StandsTo at file known → is_open (drop at file) ≡ false → EndsAt at file
+ends_here file at known s shut =
+    let all = found_all file at known s shut in
     record {
       within = s.within;
       front = s.front ∙ ap (λ (l : List (List ℕ)). header ++ joined l) (sym all);
-      place = place_of file at s ∙ ap (λ (l : List (List ℕ)). 16 + length (joined l)) (sym all);
+      place = place_of file at known s ∙ ap (λ (l : List (List ℕ)). 16 + length (joined l)) (sym all);
       whole = subst AreBatches (sym all) s.whole;
       ends = shut;
     }
 
-pub all_summed : (file : List ℕ) (at : ℕ) → StandsTo at file → is_open (drop at file) ≡ false → AreSummed (recovered file)
-all_summed file at s shut = subst AreSummed (sym (found_all file at s shut)) s.summed
+pub all_summed : (file : List ℕ) (at : ℕ) (known : ℕ → Option Place) → StandsTo at file known → is_open (drop at file) ≡ false → AreSummed (recovered file)
+all_summed file at known s shut = subst AreSummed (sym (found_all file at known s shut)) s.summed
 
--- an open batch without its sum is one that counts
-pub not_summed : (file : List ℕ) (at : ℕ) → StandsTo at file → is_open (drop at file) ≡ true → (IsSummed (drop at file) → ⊥) → AreSummed (recovered file) → ⊥
-not_summed file at s opens differs all =
+pub all_formed : (file : List ℕ) (at : ℕ) (known : ℕ → Option Place) → StandsTo at file known → is_open (drop at file) ≡ false → AreFormed (recovered file)
+all_formed file at known s shut = subst AreFormed (sym (found_all file at known s shut)) s.formed
+
+pub all_places : (file : List ℕ) (at : ℕ) (known : ℕ → Option Place) → StandsTo at file known → is_open (drop at file) ≡ false → (key : ℕ) → known key ≡ places_in 16 (recovered file) nowhere key
+all_places file at known s shut key = s.places key ∙ ap (λ (l : List (List ℕ)). places_in 16 l nowhere key) (sym (found_all file at known s shut))
+
+-- an open batch that isn't sound is one that counts
+pub not_sound : (file : List ℕ) (at : ℕ) (known : ℕ → Option Place) → StandsTo at file known → is_open (drop at file) ≡ true → (IsSound (drop at file) → ⊥) → AreSummed (recovered file) → AreFormed (recovered file) → ⊥
+not_sound file at known s opens differs summed formed =
     let m = length file - length s.before in
-    let few = few_so_far file at s in
+    let few = few_so_far file at known s in
     let left : m ≡ suc (m - 1) = omega (arith, open_size (drop at file) opens, size_least (drop at file), length-drop at file, s.within) in
-    let next = recovered_so_far file at m s (omega (arith, s.within)) ∙ ap (λ (k : ℕ). s.before ++ batches k (drop at file)) left ∙ ap (λ (l : List (List ℕ)). s.before ++ l) (batches_next (m - 1) (drop at file) opens) in
-    differs (summed_behind (drop at file) opens (summed_next s.before _ _ (subst AreSummed next all)))
+    let next = recovered_so_far file at m known s (omega (arith, s.within)) ∙ ap (λ (k : ℕ). s.before ++ batches k (drop at file)) left ∙ ap (λ (l : List (List ℕ)). s.before ++ l) (batches_next (m - 1) (drop at file) opens) in
+    differs (record {
+      summed = summed_behind (drop at file) opens (summed_next s.before _ _ (subst AreSummed next summed));
+      formed = formed_behind (drop at file) opens (formed_next s.before _ _ (subst AreFormed next formed));
+    })
 
 -- how far the walk goes by the head that it found
 pub size_there : (b : List ℕ) (head : Head) → open_head b ≡ Some head → 25 + head.bodies + head.rows ≡ size_of b

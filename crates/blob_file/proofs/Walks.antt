@@ -8,13 +8,15 @@ use Rattle.blob_file.specs.Format.{AreSummed, open_head, recovered}
 use Rattle.blob_file.specs.Opening.{Refuses, StandsTo}
 use Rattle.blob_file.specs.declared.file_error.FileError.{FileError}
 use Rattle.blob_file.specs.declared.file_error.FileError.TheVariants.{OutOfMemory, NotBlobs, Damaged, Failed, Shut, TooLong}
+use Rattle.blob_file.specs.Rows.{AreFormed}
 use Rattle.blob_file.specs.declared.head.Head.{Head}
+use Rattle.blob_file.specs.declared.rows.Place.{Place}
 
-pub record Walks {D : Type 0} (g : Ghosts D) (at len : ℕ) (first disk : D) : Type 0 where
+pub record Walks {D : Type 0} (g : Ghosts D) (at len : ℕ) (known : ℕ → Option Place) (first disk : D) : Type 0 where
   pub within : at ≤ len
   pub same : OnlyReads g first disk
   pub faults : g.faults disk ≡ g.faults first
-  pub stands : IsClean g disk → StandsTo at (g.seen first)
+  pub stands : IsClean g disk → StandsTo at (g.seen first) known
 
 pub reads_not : {D : Type 0} (g : Ghosts D) (disk : D) → IsTrue (g.is_usable disk) → OnlyReads g disk disk
 reads_not g disk usable = record { seen = refl; clean = λ clean. clean; usable = usable; key = refl; rot = refl; crash = λ c left. left }
@@ -34,7 +36,7 @@ pub found_here : (file now : List ℕ) (at : ℕ) (found it : Option Head) → n
 found_here file now at found it same is e = ap (λ (f : List ℕ). open_head (drop at f)) (sym same) ∙ sym is ∙ e
 
 -- why rows that are read may refuse the file
-pub refuses_rows : {X : Type 0} (clean : Type 0) (file : List ℕ) (before after : ℕ) (result : Result X FileError) (e : FileError) → result ≡ Err e → (result ≡ Err Damaged → clean → AreSummed (recovered file) → ⊥) → (result ≡ Err NotBlobs → ⊥) × (result ≡ Err Shut → ⊥) × (result ≡ Err TooLong → ⊥) → (result ≡ Err Failed → MoreFaults before after) → Refuses clean file before after e
+pub refuses_rows : {X : Type 0} (clean : Type 0) (file : List ℕ) (before after : ℕ) (result : Result X FileError) (e : FileError) → result ≡ Err e → (result ≡ Err Damaged → clean → AreSummed (recovered file) × AreFormed (recovered file) → ⊥) → (result ≡ Err NotBlobs → ⊥) × (result ≡ Err Shut → ⊥) × (result ≡ Err TooLong → ⊥) → (result ≡ Err Failed → MoreFaults before after) → Refuses clean file before after e
 refuses_rows clean file before after result OutOfMemory is damaged kind failed = tt
 refuses_rows clean file before after result NotBlobs is damaged kind failed = absurd (kind.0 is)
 refuses_rows clean file before after result Damaged is damaged kind failed = damaged is

@@ -5,6 +5,7 @@ use Rattle.sqlite_disk.specs.Digest.{digest}
 use Rattle.sqlite_disk.specs.Disk.{MoreFaults}
 use Rattle.blob_file.specs.Format.{head_bytes, recovered, AreSummed}
 use Rattle.blob_file.specs.Log.{IsReady}
+use Rattle.blob_file.specs.Rows.{AreFormed}
 use Rattle.blob_file.specs.declared.file_error.FileError.{FileError}
 use Rattle.blob_file.specs.declared.file_error.FileError.TheVariants.{OutOfMemory, NotBlobs, Damaged, Failed, Shut, TooLong}
 use Rattle.blob_file.specs.declared.log.Log.{Log}
@@ -41,3 +42,4 @@ pub record IsOpen {D : Type 0} (g : Ghosts D) (log : Log D) : Type 0 where
   pub usable : IsTrue log.is_whole → IsTrue (g.is_usable log.disk)
   pub ready : IsTrue log.is_whole → IsTrue (g.is_clean log.disk) → IsReady g log.gate log.disk
   pub summed : IsTrue log.is_whole → IsTrue (g.is_clean log.disk) → AreSummed (recovered (g.seen log.disk))
+  pub formed : IsTrue log.is_whole → IsTrue (g.is_clean log.disk) → AreFormed (recovered (g.seen log.disk))

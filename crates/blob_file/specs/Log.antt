@@ -3,6 +3,7 @@ use Rattle.std.specs.Prelude.{◌≡◌, ◌≢◌, ◌⊎◌, ℕ, ◌+◌, ◌
 use Rattle.sqlite_disk.specs.declared.Disk.{Ghosts}
 use Rattle.sqlite_wal.specs.Format.{part}
 use Rattle.blob_file.specs.Format.{header, head_bytes, size_of, is_open, recovered, joined, AreBatches, IsSummed}
+use Rattle.blob_file.specs.Rows.{IsFormed}
 
 -- the file is the header, the batches that it stands for, a shut gate at `gate`, and anything
 pub record RestsAt (gate : ℕ) (file : List ℕ) : Type 0 where
@@ -51,7 +52,12 @@ IsOldOrNew old batch file = (recovered file ≡ old) ⊎ (recovered file ≡ old
 abbrev pub new_batch : List ℕ → List ℕ → List ℕ
 new_batch bodies rows = batch_of (head_bytes (length bodies) rows) bodies rows
 
--- What a crash leaves where a batch is added at the gate: the old batches, or these and the new one, which has its sum. Nothing below the gate differs.
+-- the batch has the sum that it says, and rows that are as long as its bodies
+pub record IsSound (batch : List ℕ) : Type 0 where
+  pub summed : IsSummed batch
+  pub formed : IsFormed batch
+
+-- What a crash leaves where a batch is added at the gate: the old batches, or these and the new one, which is sound. Nothing below the gate differs.
 pub record IsLeft (gate : ℕ) (old batch c : List ℕ) : Type 0 where
-  pub stands : (recovered c ≡ recovered old) ⊎ ((recovered c ≡ recovered old ++ batch ∷ []) × IsSummed batch)
+  pub stands : (recovered c ≡ recovered old) ⊎ ((recovered c ≡ recovered old ++ batch ∷ []) × IsSound batch)
   pub below : SameBelow gate old c

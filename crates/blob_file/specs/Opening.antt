@@ -1,10 +1,12 @@
 -- Why a file may be refused, and what a walk over its batches knows.
-use Rattle.std.specs.Prelude.{◌≡◌, ◌⊎◌, ℕ, ◌≤◌, false, ◌||◌, IsTrue, ⊤, List, ◌++◌, length, take}
+use Rattle.std.specs.Prelude.{◌≡◌, ◌⊎◌, ℕ, ◌≤◌, false, ◌||◌, IsTrue, ⊤, List, ◌++◌, length, take, Option}
 use Rattle.sqlite_disk.specs.declared.Disk.{Ghosts}
 use Rattle.sqlite_disk.specs.Disk.{MoreFaults}
 use Rattle.sqlite_wal.specs.Reads.{IsClean}
 use Rattle.blob_file.specs.Format.{header, joined, recovered, is_made, is_unmade, AreBatches, AreSummed}
 use Rattle.blob_file.specs.Log.{RestsAt, IsReady}
+use Rattle.blob_file.specs.Rows.{places_in, nowhere, AreFormed}
+use Rattle.blob_file.specs.declared.rows.Place.{Place}
 use Rattle.blob_file.specs.declared.file_error.FileError.{FileError}
 use Rattle.blob_file.specs.declared.file_error.FileError.TheVariants.{OutOfMemory, NotBlobs, Damaged, Failed, Shut, TooLong}
 
@@ -12,7 +14,7 @@ use Rattle.blob_file.specs.declared.file_error.FileError.TheVariants.{OutOfMemor
 abbrev pub Refuses : Type 0 → List ℕ → ℕ → ℕ → FileError → Type 0
 Refuses clean file before after OutOfMemory = ⊤
 Refuses clean file before after NotBlobs = clean → (is_made file ≡ false) × (is_unmade file ≡ false)
-Refuses clean file before after Damaged = clean → ¬ AreSummed (recovered file)
+Refuses clean file before after Damaged = clean → ¬ (AreSummed (recovered file) × AreFormed (recovered file))
 Refuses clean file before after Failed = MoreFaults before after
 Refuses clean file before after Shut = ⊥
 Refuses clean file before after TooLong = ⊥
@@ -26,21 +28,25 @@ FailsAlone before after Failed = MoreFaults before after
 FailsAlone before after Shut = ⊥
 FailsAlone before after TooLong = ⊥
 
--- up to `at` the file is the header and whole batches, each with the sum that it says
-pub record StandsTo (at : ℕ) (file : List ℕ) : Type 0 where
+-- Up to `at` the file is the header and whole batches, each with the sum that it says and rows that are as long as its bodies. What is known of places is what they say.
+pub record StandsTo (at : ℕ) (file : List ℕ) (known : ℕ → Option Place) : Type 0 where
   pub within : at ≤ length file
   pub before : List (List ℕ)
   pub front : take at file ≡ header ++ joined before
   pub whole : AreBatches before
   pub summed : AreSummed before
+  pub formed : AreFormed before
+  pub places : (key : ℕ) → known key ≡ places_in 16 before nowhere key
 
--- The file is open, with its shut gate at `gate`. Nothing of what it stands for is lost or made, and one that rested already has no byte written.
-pub record Opens {D : Type 0} (g : Ghosts D) (old : D) (gate : ℕ) (new : D) : Type 0 where
+-- The file is open, with its shut gate at `gate`, and these places of blobs are known. Nothing of what it stands for is lost or made, and one that rested already has no byte written.
+pub record Opens {D : Type 0} (g : Ghosts D) (old : D) (gate : ℕ) (known : ℕ → Option Place) (new : D) : Type 0 where
   pub usable : IsTrue (g.is_usable new)
   pub found : IsClean g new → recovered (g.seen new) ≡ recovered (g.seen old)
   pub ready : IsClean g new → IsReady g gate new
   pub summed : IsClean g new → AreSummed (recovered (g.seen old))
-  pub known : IsClean g new → IsTrue (is_made (g.seen old) || is_unmade (g.seen old))
+  pub formed : IsClean g new → AreFormed (recovered (g.seen old))
+  pub places : IsClean g new → (key : ℕ) → known key ≡ places_in 16 (recovered (g.seen old)) nowhere key
+  pub kind : IsClean g new → IsTrue (is_made (g.seen old) || is_unmade (g.seen old))
   pub untouched : IsClean g new → (place : ℕ) → RestsAt place (g.seen old) → g.seen new ≡ g.seen old
 
 -- whatever a crash leaves, it left before, or it stands for what the file stood for

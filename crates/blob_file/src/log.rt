@@ -1,10 +1,12 @@
 //! A file of batches, open for its one writer.
 
-ghost use Rattle.blob_file.specs.{Appending.{AppendFails, IsOpen}, Format.{recovered}, Log.{IsLeft, new_batch}, Opening.{KeepsBatches, KeepsBytesUnlessFailed, Opens, Refuses}};
+ghost use Rattle.blob_file.specs.{Appending.{AppendFails, IsOpen}, Format.{recovered}, Log.{IsLeft, new_batch}, Opening.{KeepsBatches, KeepsBytesUnlessFailed, Opens, Refuses}, Rows.{AreWhole}};
+ghost use Rattle.std.specs.HashMap.{get};
 ghost use Rattle.sqlite_wal.specs.Reads.{IsClean};
-ghost use Rattle.std.specs.Prelude.{IfErr, IfOk, IsTrue, List, OnErr, OnOk, length, ℕ, [], ◌++◌, ◌+◌, ◌∷◌, ◌≡◌};
+ghost use Rattle.std.specs.Prelude.{IfErr, IfOk, IsTrue, List, OnErr, OnOk, length, nat_eq, ℕ, [], ◌++◌, ◌+◌, ◌∷◌, ◌≡◌};
 
 use crate::file_error::FileError;
+use crate::index::Index;
 use crate::opening::prepare;
 use crate::sealing::seal;
 use crate::staging::{make_plan, write_batch};
@@ -22,29 +24,33 @@ pub struct Log<D: Disk> {
 }
 
 impl<D: Disk> Log<D> {
-    /// Opens a file, or makes one of a file that was never made. What it finds is on the disk. A
-    /// file that rested with its gate has no byte written.
+    /// Opens a file, or makes one of a file that was never made, and tells where its blobs stand.
+    /// What it finds is on the disk. A file that rested with its gate has no byte written.
     ///
     /// # Errors
     ///
     /// With the disk back: `OutOfMemory`, `NotBlobs` and `Damaged` leave each byte as it was, and
     /// `Failed` leaves a file that stands for the same batches.
-    pub fn open(alloc: Global, disk: D) -> Result<Log<D>, (FileError, D)>
+    pub fn open(alloc: Global, disk: D) -> Result<(Log<D>, Index), (FileError, D)>
         requires usable { IsTrue (D.is_usable disk) }
-        ensures opens { IfOk result (λ log. Opens D.Disk disk log.gate log.disk) }
-        ensures open { IfOk result (λ log. IsOpen D.Disk log × IsTrue log.is_whole) }
-        ensures moment { IfOk result (λ log. KeepsBatches D.Disk disk log.disk) }
+        ensures opens { IfOk result (λ it. Opens D.Disk disk it.0.gate (get nat_eq it.1) it.0.disk) }
+        ensures open { IfOk result (λ it. IsOpen D.Disk it.0 × IsTrue it.0.is_whole) }
+        ensures moment { IfOk result (λ it. KeepsBatches D.Disk disk it.0.disk) }
         ensures moment_err { IfErr result (λ e. KeepsBatches D.Disk disk e.1) }
         ensures refused { IfErr result (λ e. Refuses (IsClean D.Disk e.1) (D.seen disk) (D.faults disk) (D.faults e.1) e.0) }
         ensures kept { IfErr result (λ e. KeepsBytesUnlessFailed D.Disk disk e.1 e.0) }
     {
         let mut disk = disk;
-        match prepare(alloc, &mut disk) {
-            Ok(gate) => Ok(Log {
-                disk,
-                gate,
-                is_whole: true,
-            }),
+        let mut index = Index::new(alloc);
+        match prepare(alloc, &mut disk, &mut index) {
+            Ok(gate) => Ok((
+                Log {
+                    disk,
+                    gate,
+                    is_whole: true,
+                },
+                index,
+            )),
             Err(error) => Err((error, disk)),
         }
     }
@@ -57,10 +63,12 @@ impl<D: Disk> Log<D> {
     /// not; the log goes on if nothing but a write failed, and else answers `Shut` from then on.
     pub fn append(&mut self, alloc: Global, bodies: &[u8], rows: &[u8]) -> Result<(), FileError>
         requires open { IsOpen D.Disk self.old }
+        requires formed { AreWhole (length bodies.now) rows.now }
         ensures open { IsOpen D.Disk self.new }
         ensures appended { OnOk result (IsClean D.Disk self.new.disk
             → recovered (D.seen self.new.disk) ≡ recovered (D.seen self.old.disk) ++ new_batch bodies.now rows.now ∷ []) }
         ensures whole { OnOk result (IsTrue self.new.is_whole) }
+        ensures gate_stays { OnErr result (self.new.gate ≡ self.old.gate) }
         ensures gate { OnOk result (self.new.gate ≡ self.old.gate + 25 + length bodies.now + length rows.now) }
 
         // A crash in it leaves the old batches, or these and the new one.

@@ -3,43 +3,53 @@
 ghost use Rattle.blob_file.specs.{Format.{is_made}, Opening.{KeepsBatches, KeepsBytesUnlessFailed, Opens, Refuses}};
 ghost use Rattle.sqlite_disk.specs.Disk.{Only};
 ghost use Rattle.sqlite_wal.specs.Reads.{IsClean};
-ghost use Rattle.std.specs.Prelude.{IfErr, IfOk, IsTrue, false, length, ◌≡◌, ◌≤◌};
+ghost use Rattle.std.specs.HashMap.{get};
+ghost use Rattle.std.specs.Prelude.{IfErr, IfOk, IsTrue, None, false, length, nat_eq, ℕ, ◌≡◌, ◌≤◌};
 
 use crate::file_error::FileError;
 use crate::front::{create, has_header, was_never_made};
+use crate::index::Index;
 use crate::repair::shut_gate;
 use crate::scanning::find_end;
 use sqlite_disk::Disk;
 use std::alloc::Global;
 
 /// Opens a file that has the header.
-fn open_made<D: Disk>(alloc: Global, disk: &mut D, len: usize) -> Result<usize, FileError>
+fn open_made<D: Disk>(
+    alloc: Global,
+    disk: &mut D,
+    len: usize,
+    index: &mut Index,
+) -> Result<usize, FileError>
     requires usable { IsTrue (D.is_usable disk.old) }
     requires len { IsClean D.Disk disk.old → len ≡ length (D.seen disk.old) }
     requires made { IsClean D.Disk disk.old → IsTrue (is_made (D.seen disk.old)) }
     requires long { 16 ≤ len }
+    requires empty { (key : ℕ) → get nat_eq index.old key ≡ None }
     requires synced { Only (D.seen disk.old) (D.may_leave disk.old) }
-    ensures opens { IfOk result (λ gate. Opens D.Disk disk.old gate disk.new) }
+    ensures opens { IfOk result (λ gate. Opens D.Disk disk.old gate (get nat_eq index.new) disk.new) }
     ensures moment { KeepsBatches D.Disk disk.old disk.new }
     ensures refused { IfErr result (Refuses (IsClean D.Disk disk.new) (D.seen disk.old) (D.faults disk.old) (D.faults disk.new)) }
     ensures kept { IfErr result (KeepsBytesUnlessFailed D.Disk disk.old disk.new) }
 {
-    let gate = find_end(alloc, disk, len)?;
+    let gate = find_end(alloc, disk, len, index)?;
     shut_gate(disk, gate, len)?;
     Ok(gate)
 }
 
 /// Makes a file that hasn't the header, if it was never made, or not to the end.
-fn open_unmade<D: Disk>(disk: &mut D, len: usize) -> Result<usize, FileError>
+fn open_unmade<D: Disk>(disk: &mut D, len: usize, index: &Index) -> Result<usize, FileError>
     requires usable { IsTrue (D.is_usable disk.old) }
     requires len { IsClean D.Disk disk.old → len ≡ length (D.seen disk.old) }
     requires other { IsClean D.Disk disk.old → is_made (D.seen disk.old) ≡ false }
+    requires empty { (key : ℕ) → get nat_eq index.now key ≡ None }
     requires synced { Only (D.seen disk.old) (D.may_leave disk.old) }
-    ensures opens { IfOk result (λ gate. Opens D.Disk disk.old gate disk.new) }
+    ensures opens { IfOk result (λ gate. Opens D.Disk disk.old gate (get nat_eq index.now) disk.new) }
     ensures moment { KeepsBatches D.Disk disk.old disk.new }
     ensures refused { IfErr result (Refuses (IsClean D.Disk disk.new) (D.seen disk.old) (D.faults disk.old) (D.faults disk.new)) }
     ensures kept { IfErr result (KeepsBytesUnlessFailed D.Disk disk.old disk.new) }
 {
+    let _index = index;
     if !was_never_made(disk, len)? {
         return Err(FileError::NotBlobs);
     }
@@ -48,6 +58,7 @@ fn open_unmade<D: Disk>(disk: &mut D, len: usize) -> Result<usize, FileError>
 }
 
 /// Opens a file, or makes one of a file that was never made, and returns where its shut gate is.
+/// The index, empty at first, has the places of the file's blobs afterwards.
 ///
 /// What is found is on the disk: the file is synced before it is read. A file that rested with its
 /// gate has no byte written.
@@ -56,9 +67,10 @@ fn open_unmade<D: Disk>(disk: &mut D, len: usize) -> Result<usize, FileError>
 ///
 /// `OutOfMemory`, `NotBlobs` and `Damaged` leave each byte as it was, and `Failed` leaves a file
 /// that stands for the same batches.
-pub fn prepare<D: Disk>(alloc: Global, disk: &mut D) -> Result<usize, FileError>
+pub fn prepare<D: Disk>(alloc: Global, disk: &mut D, index: &mut Index) -> Result<usize, FileError>
     requires usable { IsTrue (D.is_usable disk.old) }
-    ensures opens { IfOk result (λ gate. Opens D.Disk disk.old gate disk.new) }
+    requires empty { (key : ℕ) → get nat_eq index.old key ≡ None }
+    ensures opens { IfOk result (λ gate. Opens D.Disk disk.old gate (get nat_eq index.new) disk.new) }
     ensures moment { KeepsBatches D.Disk disk.old disk.new }
     ensures refused { IfErr result (Refuses (IsClean D.Disk disk.new) (D.seen disk.old) (D.faults disk.old) (D.faults disk.new)) }
     ensures kept { IfErr result (KeepsBytesUnlessFailed D.Disk disk.old disk.new) }
@@ -66,8 +78,8 @@ pub fn prepare<D: Disk>(alloc: Global, disk: &mut D) -> Result<usize, FileError>
     disk.sync()?;
     let len = disk.len()?;
     if has_header(disk, len)? {
-        open_made(alloc, disk, len)
+        open_made(alloc, disk, len, index)
     } else {
-        open_unmade(disk, len)
+        open_unmade(disk, len, index)
     }
 }

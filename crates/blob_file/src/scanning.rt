@@ -1,14 +1,17 @@
 //! The walk over the batches of a file, from its front up to the gate behind the last.
 
-ghost use Rattle.blob_file.specs.{Format.{AreSummed, IsSummed, is_made, open_head, recovered, rows_of}, Log.{EndsAt}, Opening.{FailsAlone, Refuses}};
+ghost use Rattle.blob_file.specs.{Format.{AreSummed, IsSummed, is_made, open_head, recovered, rows_of}, Log.{EndsAt, IsSound}, Opening.{FailsAlone, Refuses}};
+ghost use Rattle.blob_file.specs.Rows.{AreFormed, nowhere, placed, places_in, rows_of_batch};
+ghost use Rattle.std.specs.HashMap.{get};
 ghost use Rattle.blob_file.specs.declared.file_error.FileError.TheVariants.{Damaged, Failed, NotBlobs, Shut, TooLong};
 ghost use Rattle.sqlite_disk.specs.Disk.{MoreFaults};
 ghost use Rattle.sqlite_wal.specs.Format.{part};
 ghost use Rattle.sqlite_wal.specs.Reads.{IsClean, OnlyReads};
-ghost use Rattle.std.specs.Prelude.{Err, IfOk, IfErr, IsTrue, OnOk, Some, drop, length, ◌+◌, ◌<◌, ◌^◌, ◌≡◌, ◌≢◌, ◌≤◌};
+ghost use Rattle.std.specs.Prelude.{Err, IfOk, IfErr, IsTrue, None, OnOk, Some, drop, length, nat_eq, ℕ, ◌+◌, ◌<◌, ◌^◌, ◌≡◌, ◌≢◌, ◌≤◌};
 
 use crate::file_error::FileError;
 use crate::head::{HEAD, Head, batch_at};
+use crate::index::{Index, take_rows};
 use sqlite_disk::{Disk, digest_of};
 use std::alloc::Global;
 
@@ -63,23 +66,58 @@ fn read_rows<D: Disk>(
     Ok(rows)
 }
 
+/// Takes the rows of the batch at `at`, whose head this is, into the index. Tests their sum, and
+/// that the bodies are as long as they say.
+fn take_batch<D: Disk>(
+    alloc: Global,
+    disk: &mut D,
+    at: usize,
+    head: Head,
+    index: &mut Index,
+) -> Result<(), FileError>
+    requires usable { IsTrue (D.is_usable disk.old) }
+    requires head { IsClean D.Disk disk.old → open_head (drop at (D.seen disk.old)) ≡ Some head }
+    requires within { IsClean D.Disk disk.old → at + 25 + head.bodies + head.rows ≤ length (D.seen disk.old) }
+    requires fits { at + 25 + head.bodies + head.rows < 2 ^ 64 }
+    ensures sound { OnOk result (IsClean D.Disk disk.new → IsSound (drop at (D.seen disk.old))) }
+    ensures places { OnOk result (IsClean D.Disk disk.new → (key : ℕ) → get nat_eq index.new key
+        ≡ placed (at + 25) (rows_of_batch (drop at (D.seen disk.old))) (get nat_eq index.old) key) }
+    ensures damaged { result ≡ Err Damaged → IsClean D.Disk disk.new → ¬ IsSound (drop at (D.seen disk.old)) }
+    ensures kind { (result ≢ Err NotBlobs) × (result ≢ Err Shut) × (result ≢ Err TooLong) }
+    ensures failed { result ≡ Err Failed → MoreFaults (D.faults disk.old) (D.faults disk.new) }
+    ensures faults { OnOk result (D.faults disk.new ≡ D.faults disk.old) }
+    ensures same { OnlyReads D.Disk disk.old disk.new }
+{
+    let rows = read_rows(alloc, disk, at, head)?;
+    take_rows(index, &rows, at + HEAD, head.bodies)
+}
+
 /// Finds the gate behind the last batch of a file of blobs of `len` bytes: the first place where
-/// no batch stands that is open and whole. Tests the sum of each batch on the way.
-pub fn find_end<D: Disk>(alloc: Global, disk: &mut D, len: usize) -> Result<usize, FileError>
+/// no batch stands that is open and whole. Tests each batch on the way, and takes its rows into the
+/// index, which is empty at first.
+pub fn find_end<D: Disk>(
+    alloc: Global,
+    disk: &mut D,
+    len: usize,
+    index: &mut Index,
+) -> Result<usize, FileError>
     requires usable { IsTrue (D.is_usable disk.old) }
     requires len { IsClean D.Disk disk.old → len ≡ length (D.seen disk.old) }
     requires made { IsClean D.Disk disk.old → IsTrue (is_made (D.seen disk.old)) }
     requires long { 16 ≤ len }
+    requires empty { (key : ℕ) → get nat_eq index.old key ≡ None }
     ensures ends { IfOk result (λ gate. IsClean D.Disk disk.new → EndsAt gate (D.seen disk.old)) }
     ensures within { IfOk result (λ gate. gate ≤ len) }
     ensures summed { OnOk result (IsClean D.Disk disk.new → AreSummed (recovered (D.seen disk.old))) }
+    ensures formed { OnOk result (IsClean D.Disk disk.new → AreFormed (recovered (D.seen disk.old))) }
+    ensures places { OnOk result (IsClean D.Disk disk.new → (key : ℕ) → get nat_eq index.new key ≡ places_in 16 (recovered (D.seen disk.old)) nowhere key) }
     ensures refused { IfErr result (Refuses (IsClean D.Disk disk.new) (D.seen disk.old) (D.faults disk.old) (D.faults disk.new)) }
     ensures faults { OnOk result (D.faults disk.new ≡ D.faults disk.old) }
     ensures same { OnlyReads D.Disk disk.old disk.new }
 {
     let mut at = 16;
     while let Some(head) = batch_at(disk, at, len)? {
-        let _rows = read_rows(alloc, disk, at, head)?;
+        take_batch(alloc, disk, at, head, index)?;
         at += HEAD + head.bodies as usize + head.rows as usize;
     }
     Ok(at)

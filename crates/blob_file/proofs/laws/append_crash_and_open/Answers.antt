@@ -1,7 +1,7 @@
 use Rattle.std.proofs.Common.{◌≡◌, sym, ◌∙◌, subst, ◌+◌, ◌≤◌, arith}
 use Rattle.blob_file.specs.Format.{recovered, AreSummed}
 use Rattle.blob_file.proofs.BatchFiles.{kept}
-use Rattle.blob_file.proofs.Reopens.{if_err_both, if_ok_both, left_summed, not_refused, on_ok_at, same_made}
+use Rattle.blob_file.proofs.Reopens.{if_err_both, if_ok_both, left_formed, left_summed, not_refused, on_ok_at, same_made}
 use Rattle.blob_file.proofs.laws.append_crash_and_open.Goals as goal
 
 pub returns-clause-acknowledged : goal.returns-clause-acknowledged
@@ -20,4 +20,4 @@ returns-clause-not_refused g c =
     let ready = c.requires.open.ready c.requires.whole first in
     let left = c.append.ensures.any_moment c.requires.whole was _ c.crash.ensures.left in
     not_refused _ _ _ _ _ clean (same_made c.args.log.gate _ _ ready.rests left.below)
-    (left_summed _ _ _ _ (c.requires.open.summed c.requires.whole first) left) refuses) c.open.ensures.refused c.open.ensures.moment_err
+    (left_summed _ _ _ _ (c.requires.open.summed c.requires.whole first) left) (left_formed _ _ _ _ (c.requires.open.formed c.requires.whole first) left) refuses) c.open.ensures.refused c.open.ensures.moment_err

@@ -3,9 +3,10 @@ use Rattle.std.specs.Prelude.{slice_index}
 use Rattle.std.proofs.lemmas.List.{length_push}
 use Rattle.blob_file.specs.Format.{number, recovered, AreSummed}
 use Rattle.blob_file.specs.Log.{IsReady}
+use Rattle.blob_file.specs.Rows.{AreFormed}
 use Rattle.blob_file.proofs.FlushWrites.{same_all}
-use Rattle.blob_file.proofs.NewBatches.{head_bodies, head_rows, is_new, left_ready, left_sealed, new_summed, next_gate, tail_last}
-use Rattle.blob_file.proofs.Scans.{summed_push}
+use Rattle.blob_file.proofs.NewBatches.{head_bodies, head_rows, is_new, left_ready, left_sealed, new_sound, next_gate, tail_last}
+use Rattle.blob_file.proofs.Scans.{formed_push, summed_push}
 use Rattle.blob_file.proofs.log.Log.append.Goals as goal
 
 pub returns-in_err-plan-clause-any_moment : goal.returns-in_err-plan-clause-any_moment
@@ -41,7 +42,7 @@ returns-in_err-seal-clause-any_moment g c whole clean left may =
     let staged = c.seal.ensures.clean clean in
     let planned = c.in_ok-plan.ensures.planned in
     let is = is_new _ _ _ _ _ _ (c.in_ok-write_batch.ensures.batch staged) (c.deref.ensures.value ∙ planned.head) (c.deref-2.ensures.value ∙ planned.tail) in
-    left_sealed _ _ _ _ _ (c.write_batch.ensures.same staged) is (new_summed _ _ (omega (arith, planned.fits)) (omega (arith, planned.fits)) planned.sum)
+    left_sealed _ _ _ _ _ (c.write_batch.ensures.same staged) is (new_sound _ _ (omega (arith, planned.fits)) (omega (arith, planned.fits)) planned.sum c.requires.formed)
     (c.write_batch.ensures.below staged) (c.seal.ensures.below clean left may) (c.seal.ensures.any_moment clean left may)
 
 pub returns-clause-any_moment : goal.returns-clause-any_moment
@@ -49,7 +50,7 @@ returns-clause-any_moment g c whole clean left may =
     let staged = c.seal.ensures.clean clean in
     let planned = c.in_ok-plan.ensures.planned in
     let is = is_new _ _ _ _ _ _ (c.in_ok-write_batch.ensures.batch staged) (c.deref.ensures.value ∙ planned.head) (c.deref-2.ensures.value ∙ planned.tail) in
-    left_sealed _ _ _ _ _ (c.write_batch.ensures.same staged) is (new_summed _ _ (omega (arith, planned.fits)) (omega (arith, planned.fits)) planned.sum)
+    left_sealed _ _ _ _ _ (c.write_batch.ensures.same staged) is (new_sound _ _ (omega (arith, planned.fits)) (omega (arith, planned.fits)) planned.sum c.requires.formed)
     (c.write_batch.ensures.below staged) (c.seal.ensures.below clean left may) (c.seal.ensures.any_moment clean left may)
 
 pub returns-clause-appended : goal.returns-clause-appended
@@ -72,5 +73,13 @@ returns-clause-open g c = record {
       let planned = c.in_ok-plan.ensures.planned in
       let is = is_new _ _ _ _ _ _ (c.in_ok-write_batch.ensures.batch staged) (c.deref.ensures.value ∙ planned.head) (c.deref-2.ensures.value ∙ planned.tail) in
       let grown = c.in_ok-seal.ensures.acknowledged clean ∙ ap₂ (λ (x : List (List ℕ)) (y : List ℕ). x ++ y ∷ []) (c.write_batch.ensures.same staged) is in
-      subst AreSummed (sym grown) (summed_push _ _ (c.requires.open.summed c.if-not-self.false (c.write_batch.ensures.clean staged)) (new_summed _ _ (omega (arith, planned.fits)) (omega (arith, planned.fits)) planned.sum));
+      let sound = new_sound _ _ (omega (arith, planned.fits)) (omega (arith, planned.fits)) planned.sum c.requires.formed in
+      subst AreSummed (sym grown) (summed_push _ _ (c.requires.open.summed c.if-not-self.false (c.write_batch.ensures.clean staged)) sound.summed);
+  formed = λ _ clean.
+      let staged = c.seal.ensures.clean clean in
+      let planned = c.in_ok-plan.ensures.planned in
+      let is = is_new _ _ _ _ _ _ (c.in_ok-write_batch.ensures.batch staged) (c.deref.ensures.value ∙ planned.head) (c.deref-2.ensures.value ∙ planned.tail) in
+      let grown = c.in_ok-seal.ensures.acknowledged clean ∙ ap₂ (λ (x : List (List ℕ)) (y : List ℕ). x ++ y ∷ []) (c.write_batch.ensures.same staged) is in
+      let sound = new_sound _ _ (omega (arith, planned.fits)) (omega (arith, planned.fits)) planned.sum c.requires.formed in
+      subst AreFormed (sym grown) (formed_push _ _ (c.requires.open.formed c.if-not-self.false (c.write_batch.ensures.clean staged)) sound.formed);
 }
