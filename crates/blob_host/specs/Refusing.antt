@@ -6,9 +6,9 @@ use Rattle.std.specs.declared.io.ErrorKind.TheVariants.{NotFound, NotADirectory,
 
 -- the refusal for an error of this kind: what stands for one without leave, for a missing name, and for any other
 abbrev pub refusal_of : OpenError → OpenError → OpenError → ErrorKind → OpenError
-refusal_of denied missing other PermissionDenied = denied
-refusal_of denied missing other ReadOnlyFilesystem = denied
-refusal_of denied missing other NotFound = missing
-refusal_of denied missing other NotADirectory = FolderMissing
-refusal_of denied missing other IsADirectory = NotAFile
-refusal_of denied missing other _ = other
+refusal_of denied absent other PermissionDenied = denied
+refusal_of denied absent other ReadOnlyFilesystem = denied
+refusal_of denied absent other NotFound = absent
+refusal_of denied absent other NotADirectory = FolderMissing
+refusal_of denied absent other IsADirectory = NotAFile
+refusal_of denied absent other _ = other

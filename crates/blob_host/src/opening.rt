@@ -1,60 +1,90 @@
 //! The open of a file: for its one writer, under a lock, or for looking alone.
-ghost use Rattle.blob_host.specs.Refusing.{refusal_of};
-ghost use Rattle.std.specs.IoError.{error_kind};
-ghost use Rattle.std.specs.Prelude.{◌≡◌};
+ghost use Rattle.blob_host.specs.Opening.{IsFresh, is_usable};
+ghost use Rattle.std.specs.Prelude.{IfOk, IsTrue};
 
 use crate::facts::FileFacts;
+use crate::handles::{open_locked, open_to_read};
 use crate::host_file::HostFile;
 use crate::open_error::OpenError;
 use sqlite_disk::{Modelled, Start};
-use std::fs::{File, Metadata, OpenOptions, TryLockError};
+use std::fs::{self, File};
+use std::io;
 use std::os::fd::AsRawFd;
-use std::{fs, io};
 
-/// How often a file is opened whose path names another one by then.
-const TRIES: usize = 16;
-
-/// A file of the operating system as a disk, which held what `S` says.
+/// A file of the operating system as a disk, which held what `S` says as its database file.
 pub type HostDisk<S> = Modelled<HostFile, S>;
 
 /// A file that is open, with what the system told of it then.
 #[derive(Drop)]
 pub struct OpenFile<S: Start> {
-    /// The file. Its lock, if it has one, lasts as long as this.
+    /// The file. If it is locked, it is so as long as this lives.
     pub disk: HostDisk<S>,
     pub facts: FileFacts,
 }
 
-/// Returns the refusal that an error of the system stands for.
-fn refusal(error: io::Error, denied: OpenError, missing: OpenError) -> OpenError
-    ensures { result ≡ refusal_of denied missing (OpenError.Failed error) (error_kind error) }
+/// Syncs a file and its folder, and drops the system's copies of its pages: after a sync of another
+/// program that failed they may be other than the disk has them.
+fn settle(rt: &HostRuntime, path: &str, file: &File) -> io::Result<()> {
+    file.sync_all()?;
+    let advised = libc::posix_fadvise(file.as_raw_fd(), 0, 0, libc::POSIX_FADV_DONTNEED);
+    if advised != 0 {
+        return Err(io::Error::from_raw_os_error(advised));
+    }
+    let mut folder = fs::canonicalize(rt, path)?;
+    folder.pop();
+    File::open(rt, folder.as_str())?.sync_all()
+}
+
+/// Makes a disk of an open file.
+fn disk_of<S: Start>(file: File, facts: FileFacts) -> OpenFile<S>
+    ensures fresh { IsFresh result.disk }
+    ensures usable { IsTrue (is_usable S.Start result.disk) }
 {
-    match error.kind() {
-        io::ErrorKind::PermissionDenied | io::ErrorKind::ReadOnlyFilesystem => denied,
-        io::ErrorKind::NotFound => missing,
-        io::ErrorKind::NotADirectory => OpenError::FolderMissing,
-        io::ErrorKind::IsADirectory => OpenError::NotAFile,
-        _ => OpenError::Failed(error),
+    OpenFile {
+        disk: Modelled::new(HostFile::new(file), false, 0),
+        facts,
     }
 }
 
-/// Opens a file, to read it, or to read and write it, and to make it if it is missing.
-fn open_handle(rt: &HostRuntime, path: &str, writes: bool, makes: bool) -> Result<File, OpenError> {
-    let denied = if writes { OpenError::MayNotWrite } else { OpenError::MayNotRead };
-    let missing = if makes { OpenError::FolderMissing } else { OpenError::Missing };
-    match OpenOptions::new().read(true).write(writes).create(makes).open(rt, path) {
-        Ok(file) => Ok(file),
-        Err(error) => Err(refusal(error, denied, missing)),
-    }
+/// Opens the file of a path for its one writer, or makes it, with the mode that the process gives new
+/// files. The file is locked until the disk is dropped: no other `open` gets it, in this process or
+/// another one. What it holds is on the disk. `S` stands for that, and its value is used up, so that
+/// code over any `S` opens one file.
+///
+/// # Errors
+///
+/// No file that was there has a byte changed.
+///
+/// - `InUse`: another handle has the lock.
+/// - `NotAFile`: the path names a folder, a pipe, a device or a socket.
+/// - `MayNotWrite` or `MayNotRead`: this process has no leave to open or to make the file.
+/// - `FolderMissing`: the path's folder is missing, or is none.
+/// - `Replaced`: the path named another file each time that one was locked.
+/// - `Failed`: with the error of the system. The file may be there then, empty, if it was missing.
+pub fn open<S: Start>(rt: &HostRuntime, path: &str, _start: S) -> Result<OpenFile<S>, OpenError>
+    ensures fresh { IfOk result (λ it. IsFresh it.disk) }
+    ensures usable { IfOk result (λ it. IsTrue (is_usable S.Start it.disk)) }
+{
+    let (file, facts) = open_locked(rt, path)?;
+    settle(rt, path, &file)?;
+    Ok(disk_of(file, facts))
 }
 
-/// Returns what the path names, or None if it names nothing. Anything but a file is refused.
-fn named(rt: &HostRuntime, path: &str) -> Result<Option<Metadata>, OpenError> {
-    match fs::metadata(rt, path) {
-        Ok(found) => if found.is_file() { Ok(Some(found)) } else { Err(OpenError::NotAFile) },
-        Err(error) => match refusal(error, OpenError::MayNotRead, OpenError::Missing) {
-            OpenError::Missing => Ok(None),
-            other => Err(other),
-        },
-    }
+/// Opens the file of a path for looking alone. It takes no lock, writes nothing and makes nothing, and
+/// the system refuses each write to the disk. The file may be one that may only be read, have several
+/// names, and be written meanwhile.
+///
+/// # Errors
+///
+/// - `Missing`: the path names nothing.
+/// - `NotAFile`: it names a folder, a pipe, a device or a socket.
+/// - `MayNotRead`: this process has no leave to read the file.
+/// - `FolderMissing`: the path's folder is none.
+/// - `Failed`: with the error of the system.
+pub fn read_only<S: Start>(rt: &HostRuntime, path: &str, _start: S) -> Result<OpenFile<S>, OpenError>
+    ensures fresh { IfOk result (λ it. IsFresh it.disk) }
+    ensures usable { IfOk result (λ it. IsTrue (is_usable S.Start it.disk)) }
+{
+    let (file, facts) = open_to_read(rt, path)?;
+    Ok(disk_of(file, facts))
 }
