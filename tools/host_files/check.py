@@ -238,6 +238,12 @@ def blobs(program, folder, faults):
     faults.want("blobs", run(program, "blobs", file)[1:], ["blobs: 69 bytes"])
     faults.want("blobs again", run(program, "blobs", file)[1:], ["blobs: 121 bytes"])
     before = file.read_bytes()
+    file.chmod(0o444)
+    os.link(file, folder / "second")
+    faults.want("fetch", run(program, "fetch", folder / "second")[1:], ["blob of 3 bytes"])
+    (folder / "cut").write_bytes(before[:100])
+    faults.want("fetch of a cut copy", run(program, "fetch", folder / "cut")[1:], ["blobs: the disk failed"])
+    faults.want("cut copy", (folder / "cut").read_bytes(), before[:100])
     faults.want("look at blobs", run(program, "look", file)[-1:], [ONLY_READ])
     faults.want("blobs are kept", [file.read_bytes(), before[:16]], [before, b"pagable blobs 2\n"])
 
