@@ -37,11 +37,7 @@ pub fn facts_at(rt: &HostRuntime, path: &str) -> Result<Option<FileFacts>, OpenE
     match fs::metadata(rt, path) {
         Ok(found) => Ok(Some(FileFacts::of_file(&found)?)),
         Err(error) if error.kind() == io::ErrorKind::NotFound => Ok(None),
-        Err(error) => Err(refusal(
-            error,
-            OpenError::MayNotRead,
-            OpenError::Missing,
-        )),
+        Err(error) => Err(refusal(error, OpenError::MayNotRead, OpenError::Missing)),
     }
 }
 

@@ -1,12 +1,12 @@
 //! The open of a file: for its one writer, under a lock, or for looking alone.
-ghost use Rattle.blob_host.specs.Opening.{IsFresh, is_usable};
+ghost use Rattle.blob_host.specs.Opening.{Holds, Shows};
 ghost use Rattle.std.specs.Prelude.{IfOk, IsTrue};
 
 use crate::facts::FileFacts;
 use crate::handles::{open_locked, open_to_read};
 use crate::host_file::HostFile;
 use crate::open_error::OpenError;
-use sqlite_disk::{Modelled, Start};
+use sqlite_disk::{Disk, Modelled, Start};
 use std::fs::{self, File};
 use std::io;
 use std::os::fd::AsRawFd;
@@ -37,8 +37,8 @@ fn settle(rt: &HostRuntime, path: &str, file: &File) -> io::Result<()> {
 
 /// Makes a disk of an open file.
 fn disk_of<S: Start>(file: File, facts: FileFacts) -> OpenFile<S>
-    ensures fresh { IsFresh result.disk }
-    ensures usable { IsTrue (is_usable S.Start result.disk) }
+    ensures usable { IsTrue (⟦<Modelled<HostFile, S> as Disk>⟧.is_usable result.disk) }
+    ensures holds { Holds ⟦<Modelled<HostFile, S> as Disk>⟧ S.Start.db result.disk }
 {
     OpenFile {
         disk: Modelled::new(HostFile::new(file), false, 0),
@@ -62,8 +62,8 @@ fn disk_of<S: Start>(file: File, facts: FileFacts) -> OpenFile<S>
 /// - `Replaced`: the path named another file each time that one was locked.
 /// - `Failed`: with the error of the system. The file may be there then, empty, if it was missing.
 pub fn open<S: Start>(rt: &HostRuntime, path: &str, _start: S) -> Result<OpenFile<S>, OpenError>
-    ensures fresh { IfOk result (λ it. IsFresh it.disk) }
-    ensures usable { IfOk result (λ it. IsTrue (is_usable S.Start it.disk)) }
+    ensures usable { IfOk result (λ it. IsTrue (⟦<Modelled<HostFile, S> as Disk>⟧.is_usable it.disk)) }
+    ensures holds { IfOk result (λ it. Holds ⟦<Modelled<HostFile, S> as Disk>⟧ S.Start.db it.disk) }
 {
     let (file, facts) = open_locked(rt, path)?;
     settle(rt, path, &file)?;
@@ -81,9 +81,13 @@ pub fn open<S: Start>(rt: &HostRuntime, path: &str, _start: S) -> Result<OpenFil
 /// - `MayNotRead`: this process has no leave to read the file.
 /// - `FolderMissing`: the path's folder is none.
 /// - `Failed`: with the error of the system.
-pub fn read_only<S: Start>(rt: &HostRuntime, path: &str, _start: S) -> Result<OpenFile<S>, OpenError>
-    ensures fresh { IfOk result (λ it. IsFresh it.disk) }
-    ensures usable { IfOk result (λ it. IsTrue (is_usable S.Start it.disk)) }
+pub fn read_only<S: Start>(
+    rt: &HostRuntime,
+    path: &str,
+    _start: S,
+) -> Result<OpenFile<S>, OpenError>
+    ensures usable { IfOk result (λ it. IsTrue (⟦<Modelled<HostFile, S> as Disk>⟧.is_usable it.disk)) }
+    ensures shows { IfOk result (λ it. Shows ⟦<Modelled<HostFile, S> as Disk>⟧ S.Start.db it.disk) }
 {
     let (file, facts) = open_to_read(rt, path)?;
     Ok(disk_of(file, facts))

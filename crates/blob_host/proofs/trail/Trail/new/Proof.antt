@@ -2,11 +2,10 @@
 use mathlib.Core.Path.{refl}
 use mathlib.Core.List.{[], ◌∷◌}
 use mir.Val.{vstruct, vnil}
-use contract.Running.{tables}
 use denote.Shadow.{pure_i}
 use denote.Steps.{nothing}
 use denote.Triple.Entry.{on_entry}
-use denote.Triple.Walked.{walk_of, says, ends_at}
+use denote.Triple.Walked.{says, ends_at}
 use types.ByLocal.{alloc_all, pass_all, free_all, look_at, sets}
 use types.Kit.{raw, ◌$◌, ◌∵◌, !, qed, keep, join, suffices, done}
 use types.Part.{agg}

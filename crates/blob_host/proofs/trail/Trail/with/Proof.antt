@@ -3,7 +3,6 @@ use mathlib.Core.Path.{refl}
 use mathlib.Core.List.{List, [], ◌∷◌}
 use mir.Syntax.{named}
 use mir.Val.{Val, vptr, vstruct, vnil}
-use contract.Running.{tables}
 use denote.Builtin.{u8}
 use denote.Exit.{yes}
 use denote.RattleType.{owns}
