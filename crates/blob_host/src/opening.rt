@@ -9,7 +9,6 @@ use crate::open_error::OpenError;
 use sqlite_disk::{Disk, Modelled, Start};
 use std::fs::{self, File};
 use std::io;
-use std::os::fd::AsRawFd;
 
 /// A file of the operating system as a disk, which held what `S` says as its database file.
 pub type HostDisk<S> = Modelled<HostFile, S>;
@@ -22,14 +21,9 @@ pub struct OpenFile<S: Start> {
     pub facts: FileFacts,
 }
 
-/// Syncs a file and its folder, and drops the system's copies of its pages: after a sync of another
-/// program that failed they may be other than the disk has them.
+/// Syncs a file and its folder.
 fn settle(rt: &HostRuntime, path: &str, file: &File) -> io::Result<()> {
     file.sync_all()?;
-    let advised = libc::posix_fadvise(file.as_raw_fd(), 0, 0, libc::POSIX_FADV_DONTNEED);
-    if advised != 0 {
-        return Err(io::Error::from_raw_os_error(advised));
-    }
     let mut folder = fs::canonicalize(rt, path)?;
     folder.pop();
     File::open(rt, folder.as_str())?.sync_all()
