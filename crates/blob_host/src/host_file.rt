@@ -17,7 +17,7 @@ const TOO_LONG: usize = 1 << 63;
 #[derive(Drop)]
 pub struct HostFile {
     file: fs::File,
-    pub trail: Trail,
+    trail: Trail,
 }
 
 /// Returns what is noted of a failed call that writes: 1 if there was no room, and else 0.
