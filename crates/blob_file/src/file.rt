@@ -134,6 +134,8 @@ impl<D: Disk> BlobFile<D> {
         ensures refused { IfErr result (FetchFails (IsClean D.Disk self.new.log.disk) self.old.log.is_whole (D.faults self.old.log.disk) (D.faults self.new.log.disk)) }
         ensures settled { IsSettled D.Disk self.new }
         ensures same { SameBlobs (stored D.Disk self.old) (stored D.Disk self.new) }
+        ensures same_flushed { SameBlobs (flushed D.Disk self.old) (flushed D.Disk self.new) }
+        ensures same_whole { self.new.log.is_whole ≡ self.old.log.is_whole }
         ensures clean { IsClean D.Disk self.new.log.disk → IsClean D.Disk self.old.log.disk }
     {
         if !self.log.is_whole {
@@ -209,6 +211,7 @@ impl<D: Disk> BlobFile<D> {
         ensures durable { OnOk result (IsTrue self.old.log.is_whole → IsClean D.Disk self.new.log.disk → (c : List ℕ) → D.may_leave self.new.log.disk c
             → SameBlobs (stored D.Disk self.old) (stored_in (recovered c))) }
         ensures settled { IsSettled D.Disk self.new }
+        ensures was_whole { IsTrue self.new.log.is_whole → IsTrue self.old.log.is_whole }
         ensures clean { IsClean D.Disk self.new.log.disk → IsClean D.Disk self.old.log.disk }
     {
         if self.rows.is_empty() {

@@ -1,0 +1,2 @@
+mod Keys
+mod Stored

@@ -1,0 +1,21 @@
+//! A durable storage for a pager: blobs in one file that only grows.
+//!
+//! Below it `blob_file` keeps the file over any `Disk` of `sqlite_disk`; this crate says what a
+//! blob's body is there, tests the key of each blob that it fetches, and counts what was asked.
+#![tactic(auto)]
+
+pub mod bodies;
+pub mod fault;
+pub mod file_blobs;
+pub mod open_error;
+pub mod opening;
+pub mod stats;
+
+pub use fault::Fault;
+pub use file_blobs::FileBlobs;
+pub use open_error::OpenError;
+pub use opening::FileOfBlobs;
+pub use stats::Stats;
+
+#[cfg(test)]
+mod tests;
