@@ -9,6 +9,7 @@ pub mod holding;
 pub mod index;
 pub mod laws;
 pub mod log;
+pub mod naming;
 pub mod opening;
 pub mod repair;
 pub mod rows;
