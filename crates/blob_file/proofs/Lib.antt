@@ -7,7 +7,7 @@ pub mod Fronts
 pub mod Heads
 pub mod Indexes
 pub mod KeyBytes
-pub mod NameLists
+pub mod Listings
 pub mod NewBatches
 pub mod Placing
 pub mod Reopens
@@ -16,4 +16,5 @@ pub mod RowCuts
 pub mod RowWalks
 pub mod Scans
 pub mod Settling
+pub mod Standing
 pub mod Walks

@@ -4,6 +4,7 @@ use Rattle.std.specs.Prelude.{option_map}
 use Rattle.std.specs.Map.{update}
 use Rattle.std.proofs.lemmas.Bool.{cases_Bool, le-leb, leb-true, leb-false, lt-leb}
 use Rattle.sqlite_wal.specs.Format.{part}
+use Rattle.sqlite_wal.proofs.PartLemmas.{length-part}
 use Rattle.blob_file.specs.File.{body_bytes}
 use Rattle.blob_file.specs.Format.{header, number, size_of, joined, IsBatch, AreBatches}
 use Rattle.blob_file.specs.Rows.{Body, body_at, nowhere, places_in, placed, place_at, blobs_in, blobs_of_batch, size_of_place, size_of_row, total, AreFormed, AreWhole, stored_in}
@@ -78,3 +79,10 @@ same_bodies f g m n P same all each q = ap (option_map f) (same q) ∙ go (n q) 
     go : (o : Option Place) → ((p : Place) → o ≡ Some p → P p) → option_map f o ≡ option_map g o
     go None here = refl
     go (Some p) here = ap Some (each p (here p refl))
+
+-- a body is as long as its place says
+pub as_long : (file bodies : List ℕ) (gate : ℕ) (p : Place) → gate ≤ length file → IsHere gate (length bodies) p → length (body_bytes file bodies (gate + 25) p) ≡ size_of_place p
+as_long file bodies gate p within (inl low) =
+    ap (λ (l : List ℕ). length l) (bytes_flushed file bodies (gate + 25) p (omega (arith, low))) ∙ length-part file p.at (size_of_place p) (omega (arith, low, within))
+as_long file bodies gate p within (inr high) =
+    ap (λ (l : List ℕ). length l) (bytes_held file bodies (gate + 25) p high.0) ∙ length-part bodies (p.at - (gate + 25)) (size_of_place p) (omega (arith, high))

@@ -1,6 +1,6 @@
 -- An open file of blobs: what is flushed, what is held, and what is fetched.
-use Rattle.std.specs.Prelude.{◌≡◌, ◌≢◌, ◌⊎◌, ℕ, ◌+◌, ◌-◌, ◌≤◌, ◌^◌, nat_eq, nat_le, Bool, if◌then◌else◌, false, IsTrue, ⊤, List, length}
-use Rattle.std.specs.Prelude.{Option, None, Some, option_map, IfSome, IsSome}
+use Rattle.std.specs.Prelude.{◌≡◌, ◌≢◌, ◌⊎◌, ℕ, ◌+◌, ◌*◌, ◌-◌, ◌≤◌, ◌^◌, nat_eq, nat_le, Bool, if◌then◌else◌, false, IsTrue, ⊤, List, length}
+use Rattle.std.specs.Prelude.{Option, None, Some, option_map, IfSome, IsSome, IsSomeAnd, map}
 use Rattle.std.specs.HashMap.{get, get_by_text}
 use Rattle.std.specs.List.{AllPairs, Contains}
 use Rattle.sqlite_disk.specs.declared.Disk.{Ghosts}
@@ -14,6 +14,7 @@ use Rattle.blob_file.specs.declared.file.BlobFile.{BlobFile}
 use Rattle.blob_file.specs.declared.file.FoundBlob.{FoundBlob}
 use Rattle.blob_file.specs.declared.file_error.FileError.{FileError}
 use Rattle.blob_file.specs.declared.file_error.FileError.TheVariants.{OutOfMemory, Damaged, Failed, NoSuchBlob, Shut, TooLong}
+use Rattle.blob_file.specs.declared.listing.ListedBlob.{ListedBlob}
 use Rattle.blob_file.specs.declared.rows.Place.{Place}
 
 -- where the bodies of the next batch begin
@@ -102,11 +103,25 @@ abbrev pub HasNoBlob : {X : Type 0} → (ℕ → Option X) → Option ℕ → Ty
 HasNoBlob blobs None = ⊥
 HasNoBlob blobs (Some key) = (key ≡ 0) ⊎ (blobs key ≡ None)
 
--- each name that stands for a key is listed, once, and no other
-pub record ListsNames (names : List ℕ → Option ℕ) (listed : List (List ℕ)) : Type 0 where
+-- each key under which there is something is listed, once, and no other
+pub record Lists {K X : Type 0} (found : K → Option X) (listed : List K) : Type 0 where
   pub once : AllPairs (λ a b. a ≢ b) listed
-  pub all : (name : List ℕ) → IsSome (names name) → Contains listed name
-  pub only : (name : List ℕ) → Contains listed name → IsSome (names name)
+  pub all : (key : K) → IsSome (found key) → Contains listed key
+  pub only : (key : K) → Contains listed key → IsSome (found key)
+
+-- the blob has so many child keys and so many bytes
+pub record IsListedAs (listed : ListedBlob) (body : Body) : Type 0 where
+  pub children : body.children ≡ listed.children
+  pub bytes : length body.bytes ≡ 16 * listed.children + listed.bytes
+
+-- each blob is listed, once, and no other, as it is
+pub record ListsBlobs (blobs : ℕ → Option Body) (listed : List ListedBlob) : Type 0 where
+  pub keys : Lists blobs (map (λ it. it.key) listed)
+  pub each : (it : ListedBlob) → Contains listed it → IsSomeAnd (blobs it.key) (IsListedAs it)
+
+-- what is listed of a place
+abbrev pub listed_entry : ℕ × Place → ListedBlob
+listed_entry it = record { key = it.0; children = it.1.children; bytes = it.1.bytes }
 
 -- why a name isn't set
 abbrev pub NameFails : Bool → List ℕ → Option ℕ → (ℕ → Option Body) → FileError → Type 0

@@ -1,7 +1,7 @@
 //! Blobs by key in a file of batches, flushed or held.
 
-ghost use Rattle.blob_file.specs.File.{AddFails, FetchFails, IsSettled, Same, SameBlobs, SameNames, body_bytes, content};
-ghost use Rattle.blob_file.specs.File.{content_of, flushed, found_body, named, stored};
+ghost use Rattle.blob_file.specs.File.{AddFails, FetchFails, IsSettled, NamesStand, Same, SameBlobs, SameNames};
+ghost use Rattle.blob_file.specs.File.{body_bytes, content, content_of, flushed, found_body, named, stored};
 ghost use Rattle.blob_file.specs.Opening.{CanOpen, FailsFor, KeepsBatches, KeepsBytesUnlessFailed, Refuses};
 ghost use Rattle.blob_file.specs.{Format.{recovered}, Rows.{size_of_place}};
 ghost use Rattle.blob_file.specs.declared.file_error.FileError.TheVariants.{Damaged, OutOfMemory};
@@ -184,6 +184,8 @@ impl<D: Disk> BlobFile<D> {
         ensures refused { IfErr result (AddFails self.old.log.is_whole) }
         ensures kept { OnErr result (SameBlobs (stored D.Disk self.old) (stored D.Disk self.new)) }
         ensures names { SameNames (named self.old) (named self.new) }
+        ensures stand { IsClean D.Disk self.new.log.disk → NamesStand (content D.Disk self.old)
+            → NamesStand (content D.Disk self.new) }
         ensures settled { IsSettled D.Disk self.new }
         ensures log { self.new.log ≡ self.old.log }
     {
@@ -240,5 +242,32 @@ impl<D: Disk> BlobFile<D> {
         self.bodies.clear();
         self.rows.clear();
         Ok(())
+    }
+    /// Flushes what is held, and gives the disk back.
+    ///
+    /// # Errors
+    ///
+    /// Those of `flush`, with the file as that leaves it: nothing that was held is lost.
+    pub fn close(self, alloc: Global) -> Result<D, (FileError, BlobFile<D>)>
+        requires settled { IsSettled D.Disk self }
+        ensures flushed { IfOk result (λ disk. IsTrue self.log.is_whole → IsClean D.Disk disk
+            → Same (content D.Disk self) (content_of (recovered (D.seen disk)))) }
+        ensures durable { IfOk result (λ disk. IsTrue self.log.is_whole → IsClean D.Disk disk → (c : List ℕ)
+            → D.may_leave disk c → Same (content D.Disk self) (content_of (recovered c))) }
+        ensures same { IfErr result (λ e. IsTrue e.1.log.is_whole → IsClean D.Disk e.1.log.disk
+            → Same (content D.Disk self) (content D.Disk e.1)) }
+        ensures any_moment { IfErr result (λ e. IsTrue self.log.is_whole → IsClean D.Disk e.1.log.disk → (c : List ℕ)
+            → D.may_leave e.1.log.disk c → Same (flushed D.Disk self) (content_of (recovered c))
+            ⊎ Same (content D.Disk self) (content_of (recovered c))) }
+        ensures settled { IfErr result (λ e. IsSettled D.Disk e.1) }
+    {
+        let mut file = self;
+        match file.flush(alloc) {
+            Ok(()) => {
+                let BlobFile { log, .. } = file;
+                Ok(log.disk)
+            }
+            Err(error) => Err((error, file)),
+        }
     }
 }

@@ -8,6 +8,7 @@ pub mod head;
 pub mod holding;
 pub mod index;
 pub mod laws;
+pub mod listing;
 pub mod log;
 pub mod naming;
 pub mod opening;
@@ -19,6 +20,7 @@ pub mod staging;
 
 pub use file::{BlobFile, FoundBlob};
 pub use file_error::FileError;
+pub use listing::{Counts, ListedBlob};
 pub use log::Log;
 
 #[cfg(test)]

@@ -1,7 +1,7 @@
 //! Names in a file of blobs, each of which stands for the key of a blob.
 
-ghost use Rattle.blob_file.specs.File.{HasNoBlob, IsSettled, ListsNames, NameFails, SameBlobs, SameNames, named, stored};
-ghost use Rattle.blob_file.specs.Rows.{key_given};
+ghost use Rattle.blob_file.specs.File.{HasNoBlob, IsSettled, Lists, NameFails, NamesStand, SameBlobs, SameNames};
+ghost use Rattle.blob_file.specs.{File.{content, named, stored}, Rows.{key_given}};
 ghost use Rattle.blob_file.specs.declared.file_error.FileError.TheVariants.{OutOfMemory};
 ghost use Rattle.std.specs.{HashMap.{get, get_by_text}, Map.{update}, Str.{bytes_eq}, String.{string_bytes}};
 ghost use Rattle.std.specs.Prelude.{IfErr, IfNone, IfOk, IfSome, IsSome, List, OnErr, OnOk, OnSome, map, nat_eq, ℕ, ◌≡◌};
@@ -33,7 +33,7 @@ fn key_of_row(places: &Places, key: Option<u128>) -> Option<u128>
 
 /// Returns the names of a map, each once.
 fn list_names(alloc: Global, names: &Names) -> Result<Vec<String>, FileError>
-    ensures each { IfOk result (λ listed. ListsNames (get_by_text names.now) (map string_bytes listed.items)) }
+    ensures each { IfOk result (λ listed. Lists (get_by_text names.now) (map string_bytes listed.items)) }
     ensures kind { IfErr result (λ e. e ≡ OutOfMemory) }
 {
     let mut listed = Vec::new(alloc);
@@ -65,6 +65,7 @@ impl<D: Disk> BlobFile<D> {
         ensures refused { IfErr result (NameFails self.old.log.is_whole name.now key (stored D.Disk self.old)) }
         ensures kept { OnErr result (SameNames (named self.old) (named self.new)) }
         ensures blobs { SameBlobs (stored D.Disk self.old) (stored D.Disk self.new) }
+        ensures stand { NamesStand (content D.Disk self.old) → NamesStand (content D.Disk self.new) }
         ensures settled { IsSettled D.Disk self.new }
         ensures log { self.new.log ≡ self.old.log }
     {
@@ -87,7 +88,7 @@ impl<D: Disk> BlobFile<D> {
     ///
     /// `OutOfMemory`.
     pub fn root_names(&self, alloc: Global) -> Result<Vec<String>, FileError>
-        ensures each { IfOk result (λ names. ListsNames (named self.now) (map string_bytes names.items)) }
+        ensures each { IfOk result (λ names. Lists (named self.now) (map string_bytes names.items)) }
         ensures kind { IfErr result (λ e. e ≡ OutOfMemory) }
     {
         list_names(alloc, &self.index.names)

@@ -1,4 +1,4 @@
-use Rattle.blob_file.proofs.NameLists.{all_listed}
+use Rattle.blob_file.proofs.Listings.{all_listed}
 use Rattle.blob_file.proofs.naming.list_names.Goals as goal
 
 pub returns-clause-each : goal.returns-clause-each

@@ -2,11 +2,12 @@ use Rattle.std.proofs.Common.{◌≡◌, ◌⊎◌, inl, inr, refl, sym, ◌∙�
 use Rattle.std.specs.HashMap.{get}
 use Rattle.std.specs.Map.{update}
 use Rattle.std.specs.Str.{bytes_eq}
-use Rattle.blob_file.specs.File.{named}
+use Rattle.blob_file.specs.File.{body_now, named}
 use Rattle.blob_file.specs.Format.{recovered}
 use Rattle.blob_file.specs.Rows.{AreWhole, blobs_in, key_given, named_in, names_in, nowhere, placed, places_in, row_bytes, row_of, told}
 use Rattle.blob_file.specs.declared.rows.Row.{Row}
 use Rattle.blob_file.proofs.Settling.{named_names, named_places, named_rows, row_back}
+use Rattle.blob_file.proofs.Standing.{has_blob, stand_named}
 use Rattle.blob_file.proofs.file.BlobFile.set_root.Goals as goal
 
 pub returns-clause-settled : goal.returns-clause-settled
@@ -30,3 +31,10 @@ returns-clause-settled g c =
           named_names (length it.bodies.items) it.rows.items c.args.name.now r (named it) _ (named_in (recovered (g.D.Disk.seen it.log.disk))) s.held back mark size done.named (s.names whole clean) name
           ∙ ap (λ (l : List ℕ). told (names_in l) (named_in (recovered (g.D.Disk.seen it.log.disk))) name) (sym done.rows);
     }
+
+pub returns-clause-stand : goal.returns-clause-stand
+returns-clause-stand g c stand =
+    let it = c.args.self.now in
+    let key : key_given c.in-Some-make_name_row.row.key ≡ c.args.key = ap (λ (x : Row). key_given x.key) c.in-Some-make_name_row.ensures.1 ∙ c.in-Some.ensures.given in
+    stand_named _ _ (named it) _ c.args.name.now c.args.key (λ k. refl) (has_blob (body_now g.D.Disk it) (get nat_eq it.index.places) c.args.key c.in-Some.ensures.stands)
+    (λ q. c.in_ok-hold_name.ensures.named q ∙ ap (λ (k : Option ℕ). update bytes_eq (named it) c.args.name.now k q) key) stand
