@@ -4,9 +4,10 @@ use Rattle.std.specs.Prelude.{option_map}
 use Rattle.std.specs.Map.{update}
 use Rattle.std.proofs.lemmas.Bool.{cases_Bool, le-leb, leb-true, leb-false, lt-leb}
 use Rattle.sqlite_wal.specs.Format.{part}
+use Rattle.sqlite_wal.proofs.PartLemmas.{length-part}
 use Rattle.blob_file.specs.File.{body_bytes}
 use Rattle.blob_file.specs.Format.{header, number, size_of, joined, IsBatch, AreBatches}
-use Rattle.blob_file.specs.Rows.{Body, body_at, nowhere, places_in, placed, place_at, rows_in, rows_of_batch, size_of_place, size_of_row, total, AreFormed, AreWhole, stored_in}
+use Rattle.blob_file.specs.Rows.{Body, body_at, nowhere, places_in, placed, place_at, blobs_in, blobs_of_batch, size_of_place, size_of_row, total, AreFormed, AreWhole, stored_in}
 use Rattle.blob_file.specs.declared.rows.Row.{Row}
 use Rattle.blob_file.specs.declared.rows.Place.{Place}
 use Rattle.blob_file.proofs.Indexes.{part_of_front}
@@ -42,8 +43,8 @@ places_end at bound [] known all whole formed fits q p found = all q p found
 places_end at bound (b ∷ bs) known all whole formed fits q p found =
     let first = batch_size b whole.0 in
     let more = length-append b (joined bs) in
-    places_end (at + length b) bound bs (placed (at + 25) (rows_of_batch b) known)
-    (placed_known (λ p. p.at + size_of_place p ≤ bound) (at + 25) (rows_of_batch b) known all (λ it low high. omega (arith, formed.0.sized, first, fits, more, high)))
+    places_end (at + length b) bound bs (placed (at + 25) (blobs_of_batch b) known)
+    (placed_known (λ p. p.at + size_of_place p ≤ bound) (at + 25) (blobs_of_batch b) known all (λ it low high. omega (arith, formed.0.sized, first, fits, more, high)))
     whole.1 formed.1 (omega (arith, fits, more)) q p found
 
 -- the places of sound batches end within them
@@ -54,9 +55,9 @@ places_within bs whole formed = places_end 16 (16 + length (joined bs)) bs nowhe
 abbrev pub IsHere : ℕ → ℕ → Place → Type 0
 IsHere gate held p = (p.at + size_of_place p ≤ gate) ⊎ ((gate + 25 ≤ p.at) × (p.at + size_of_place p ≤ gate + 25 + held))
 
-pub all_here : (gate held : ℕ) (bs : List (List ℕ)) (rows : List ℕ) → gate ≡ 16 + length (joined bs) → AreBatches bs → AreFormed bs → AreWhole held rows → AllKnown (IsHere gate held) (placed (gate + 25) (rows_in (length rows / 24) rows) (places_in 16 bs nowhere))
+pub all_here : (gate held : ℕ) (bs : List (List ℕ)) (rows : List ℕ) → gate ≡ 16 + length (joined bs) → AreBatches bs → AreFormed bs → AreWhole held rows → AllKnown (IsHere gate held) (placed (gate + 25) (blobs_in rows) (places_in 16 bs nowhere))
 all_here gate held bs rows place whole formed sized =
-    placed_known (IsHere gate held) (gate + 25) (rows_in (length rows / 24) rows) (places_in 16 bs nowhere)
+    placed_known (IsHere gate held) (gate + 25) (blobs_in rows) (places_in 16 bs nowhere)
     (λ q p found. inl (let low = places_within bs whole formed q p found in omega (arith, low, place)))
     (λ p low high. inr (low, omega (arith, high, sized.sized)))
 
@@ -78,3 +79,10 @@ same_bodies f g m n P same all each q = ap (option_map f) (same q) ∙ go (n q) 
     go : (o : Option Place) → ((p : Place) → o ≡ Some p → P p) → option_map f o ≡ option_map g o
     go None here = refl
     go (Some p) here = ap Some (each p (here p refl))
+
+-- a body is as long as its place says
+pub as_long : (file bodies : List ℕ) (gate : ℕ) (p : Place) → gate ≤ length file → IsHere gate (length bodies) p → length (body_bytes file bodies (gate + 25) p) ≡ size_of_place p
+as_long file bodies gate p within (inl low) =
+    ap (λ (l : List ℕ). length l) (bytes_flushed file bodies (gate + 25) p (omega (arith, low))) ∙ length-part file p.at (size_of_place p) (omega (arith, low, within))
+as_long file bodies gate p within (inr high) =
+    ap (λ (l : List ℕ). length l) (bytes_held file bodies (gate + 25) p high.0) ∙ length-part bodies (p.at - (gate + 25)) (size_of_place p) (omega (arith, high))

@@ -5,7 +5,7 @@ use Rattle.std.proofs.lemmas.Bool.{both_ways}
 use Rattle.std.proofs.lemmas.Slice.Eq.{bytes_eq-Decides}
 use Rattle.blob_file.specs.Format.{header, is_made, recovered, AreSummed}
 use Rattle.blob_file.specs.Log.{IsLeft, RestsAt, SameBelow}
-use Rattle.blob_file.specs.Opening.{Refuses}
+use Rattle.blob_file.specs.Opening.{CanOpen, Refuses}
 use Rattle.blob_file.specs.Rows.{AreFormed}
 use Rattle.blob_file.specs.declared.file_error.FileError.{FileError}
 use Rattle.blob_file.specs.declared.file_error.FileError.TheVariants.{Damaged, NotBlobs}
@@ -31,11 +31,11 @@ same_made gate file c rests s =
     let low : 16 ≤ gate = omega (arith, rests.place) in
     (bytes_eq-Decides (take 16 c) header).1 (same_front gate 16 file c low (omega (arith, rests.within)) s ∙ (bytes_eq-Decides (take 16 file) header).0 (rests_made gate file rests))
 
--- a file with the header, whose batches have their sums, isn't refused for what it is
-pub not_refused : (clean : Type 0) (file : List ℕ) (before after : ℕ) (e : FileError) → clean → is_made file ≡ true → AreSummed (recovered file) → AreFormed (recovered file) → Refuses clean file before after e → (e ≡ NotBlobs → ⊥) × (e ≡ Damaged → ⊥)
-not_refused clean file before after e it made summed formed refuses = (
-  λ is. both_ways (is_made file) (subst (Refuses clean file before after) is refuses it).0 made,
-  λ is. subst (Refuses clean file before after) is refuses it (summed, formed),
+-- a file that can be opened isn't refused for what it is
+pub not_refused : (clean : Type 0) (file : List ℕ) (before after : ℕ) (e : FileError) → clean → CanOpen file → Refuses clean file before after e → (e ≡ NotBlobs → ⊥) × (e ≡ Damaged → ⊥)
+not_refused clean file before after e it can refuses = (
+  λ is. both_ways (is_made file) (subst (Refuses clean file before after) is refuses it).0 can.made,
+  λ is. subst (Refuses clean file before after) is refuses it (can.summed, can.formed),
 )
 
 -- whatever is left where a batch is added has the sums that it says

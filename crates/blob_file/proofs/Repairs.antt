@@ -122,7 +122,3 @@ recovered_new = recovered_small new_file (omega arith)
 
 pub none_formed : (file : List ℕ) → length file ≤ 17 → AreFormed (recovered file)
 none_formed file small = subst AreFormed (sym (recovered_small file small)) tt
-
-pub none_placed : (file : List ℕ) (key : ℕ) → length file ≤ 17 → places_in 16 (recovered file) nowhere key ≡ None
-unfolding places_in
-none_placed file key small = ap (λ (l : List (List ℕ)). places_in 16 l nowhere key) (recovered_small file small)

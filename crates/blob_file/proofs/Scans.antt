@@ -1,6 +1,7 @@
 -- The walk over the batches of a file: what one step finds, and what the end says of the whole.
-use Rattle.std.proofs.Common.{◌≡◌, ◌≢◌, inl, inr, refl, sym, ◌∙◌, ap, ap₂, subst, ℕ, zero, suc, ◌+◌, ◌-◌, ◌/◌, ◌<◌, ◌≤◌, Bool, true, false, if◌then◌else◌, ◌&&◌, List, [], ◌∷◌, ◌++◌, length, take, drop, arith, append_assoc, append-nil, length-append, length-take, length-drop, take-append-drop, take-add, drop-drop, get_or-take, Option, Some, None}
+use Rattle.std.proofs.Common.{◌≡◌, ◌≢◌, inl, inr, refl, sym, ◌∙◌, ap, ap₂, subst, ℕ, zero, suc, ◌+◌, ◌-◌, ◌/◌, ◌<◌, ◌≤◌, Bool, true, false, if◌then◌else◌, ◌&&◌, List, [], ◌∷◌, ◌++◌, length, take, drop, arith, nat_eq, append_assoc, append-nil, length-append, length-take, length-drop, take-append-drop, take-add, drop-drop, get_or-take, Option, Some, None}
 use Rattle.std.specs.Prelude.{slice_index, IsTrue}
+use Rattle.std.specs.HashMap.{get, get_by_text}
 use Rattle.std.specs.Str.{bytes_eq}
 use Rattle.std.proofs.lemmas.Bool.{cases_Bool, and_parts, eqb-true, leb-true}
 use Rattle.std.proofs.lemmas.Slice.Eq.{bytes_eq-Decides}
@@ -10,9 +11,10 @@ use Rattle.sqlite_wal.specs.Format.{part}
 use Rattle.sqlite_wal.proofs.PartLemmas.{held_is_part}
 use Rattle.blob_file.specs.Format.{header, number, size_of, head_of, is_open, open_head, batches, recovered, joined, rows_of, is_made, IsBatch, AreBatches, IsSummed, AreSummed}
 use Rattle.blob_file.specs.Log.{EndsAt, IsSound}
-use Rattle.blob_file.specs.Rows.{rows_in, placed, places_in, nowhere, rows_of_batch, IsFormed, AreFormed, AreWhole}
+use Rattle.blob_file.specs.Rows.{blobs_in, blobs_of_batch, named_in, names_in, placed, places_in, nowhere, told, told_in, IsFormed, AreFormed, AreWhole, Knows, Learns}
+use Rattle.blob_file.specs.declared.index.Index.{Index}
 use Rattle.blob_file.specs.declared.rows.Place.{Place}
-use Rattle.blob_file.proofs.Indexes.{placed_same}
+use Rattle.blob_file.proofs.Indexes.{placed_same, told_same}
 use Rattle.blob_file.specs.Opening.{StandsTo}
 use Rattle.blob_file.specs.declared.head.Head.{Head}
 use Rattle.blob_file.proofs.BatchFiles.{part_front, number_front, size_of-front, batches-joined, few_batches, joined-push, all-push, recovered_of, size_least}
@@ -120,16 +122,16 @@ unfolding batches
 batches_next n r opens = ap (λ (t : Bool). if t then take (size_of r) r ∷ batches n (drop (size_of r) r) else []) opens
 
 -- the walk begins behind the header
-pub stands_start : (file : List ℕ) → is_made file ≡ true → 16 ≤ length file → (known : ℕ → Option Place) → ((key : ℕ) → known key ≡ None) → StandsTo 16 file known
-unfolding joined places_in
-stands_start file made long known empty = record {
+pub stands_start : (file : List ℕ) → is_made file ≡ true → 16 ≤ length file → (index : Index) → Knows index [] → StandsTo 16 file index
+unfolding joined
+stands_start file made long index empty = record {
   within = long;
   before = [];
   front = (bytes_eq-Decides (take 16 file) header).0 made;
   whole = tt;
   summed = tt;
   formed = tt;
-  places = empty;
+  knows = empty;
 }
 
 -- the rows of an open batch, alone and in the file
@@ -157,22 +159,47 @@ formed_next [] b more all = all.0
 formed_next (x ∷ bs) b more all = formed_next bs b more all.1
 
 -- the places of one batch more
-pub places_in-push : (a : ℕ) (bs : List (List ℕ)) (b : List ℕ) (known : ℕ → Option Place) (q : ℕ) → places_in a (bs ++ b ∷ []) known q ≡ placed (a + length (joined bs) + 25) (rows_of_batch b) (places_in a bs known) q
+pub places_in-push : (a : ℕ) (bs : List (List ℕ)) (b : List ℕ) (known : ℕ → Option Place) (q : ℕ) → places_in a (bs ++ b ∷ []) known q ≡ placed (a + length (joined bs) + 25) (blobs_of_batch b) (places_in a bs known) q
 unfolding places_in joined
 places_in-push a [] b known q =
     let here : a + 25 ≡ a + 0 + 25 = omega arith in
-    ap (λ (k : ℕ). placed k (rows_of_batch b) known q) here
+    ap (λ (k : ℕ). placed k (blobs_of_batch b) known q) here
 places_in-push a (x ∷ bs) b known q =
     let there : a + length x + length (joined bs) + 25 ≡ a + length (x ++ joined bs) + 25 = omega (arith, length-append x (joined bs)) in
-    places_in-push (a + length x) bs b (placed (a + 25) (rows_of_batch x) known) q
-    ∙ ap (λ (k : ℕ). placed k (rows_of_batch b) (places_in (a + length x) bs (placed (a + 25) (rows_of_batch x) known)) q) there
+    places_in-push (a + length x) bs b (placed (a + 25) (blobs_of_batch x) known) q
+    ∙ ap (λ (k : ℕ). placed k (blobs_of_batch b) (places_in (a + length x) bs (placed (a + 25) (blobs_of_batch x) known)) q) there
 
-place_of : (file : List ℕ) (at : ℕ) (known : ℕ → Option Place) → (s : StandsTo at file known) → at ≡ 16 + length (joined s.before)
+told_in-push : (bs : List (List ℕ)) (b : List ℕ) (known : List ℕ → Option ℕ) (q : List ℕ) → told_in (bs ++ b ∷ []) known q ≡ told (names_in (rows_of b)) (told_in bs known) q
+unfolding told_in
+told_in-push [] b known q = refl
+told_in-push (x ∷ bs) b known q = told_in-push bs b (told (names_in (rows_of x)) known) q
+
+pub named_in-push : (bs : List (List ℕ)) (b name : List ℕ) → named_in (bs ++ b ∷ []) name ≡ told (names_in (rows_of b)) (named_in bs) name
+named_in-push bs b name = told_in-push bs b (λ q. None) name
+
+-- what an index knows once it has learned what the rows of one batch more say
+knows_next : (at : ℕ) (bs : List (List ℕ)) (b rows : List ℕ) (old new : Index) → Knows old bs → at ≡ 16 + length (joined bs) → rows ≡ rows_of b → Learns (at + 25) rows old new → Knows new (bs ++ b ∷ [])
+knows_next at bs b rows old new knows place is learns = record {
+  places = λ key.
+      let there : at + 25 ≡ 16 + length (joined bs) + 25 = omega (arith, place) in
+      learns.places key
+      ∙ placed_same (at + 25) (blobs_in rows) (get nat_eq old.places) (places_in 16 bs nowhere) knows.places key
+      ∙ ap₂ (λ (k : ℕ) (r : List ℕ). placed k (blobs_in r) (places_in 16 bs nowhere) key) there is
+      ∙ sym (places_in-push 16 bs b nowhere key);
+  names = λ name.
+      learns.names name
+      ∙ told_same (names_in rows) (get_by_text old.names) (named_in bs) knows.names name
+      ∙ ap (λ (r : List ℕ). told (names_in r) (named_in bs) name) is
+      ∙ sym (named_in-push bs b name);
+}
+
+place_of : (file : List ℕ) (at : ℕ) (known : Index) → (s : StandsTo at file known) → at ≡ 16 + length (joined s.before)
 place_of file at known s = omega (arith, ap length s.front, length-append header (joined s.before), length-take at file, s.within)
 
 -- a walk goes on behind an open batch with the sum that it says
-pub stands_next : (file : List ℕ) (at n : ℕ) → (known new : ℕ → Option Place) → StandsTo at file known → is_open (drop at file) ≡ true → IsSound (drop at file) → n ≡ size_of (drop at file) → ((key : ℕ) → new key ≡ placed (at + 25) (rows_of_batch (drop at file)) known key) → StandsTo (at + n) file new
-stands_next file at n known new s opens sound size taken =
+pub stands_next : (file : List ℕ) (at n : ℕ) (known new : Index) → StandsTo at file known → is_open (drop at file) ≡ true → IsSound (drop at file) → n ≡ size_of (drop at file)
+    → Learns (at + 25) (rows_of (drop at file)) known new → StandsTo (at + n) file new
+stands_next file at n known new s opens sound size learns =
     let b = take n (drop at file) in
     let here : take (size_of (drop at file)) (drop at file) ≡ b = ap (λ (k : ℕ). take k (drop at file)) (sym size) in
     record {
@@ -182,33 +209,27 @@ stands_next file at n known new s opens sound size taken =
       whole = all-push s.before b s.whole (subst IsBatch here (batch_there (drop at file) opens));
       summed = summed_push s.before b s.summed (subst IsSummed here (summed_alone (drop at file) opens sound.summed));
       formed = formed_push s.before b s.formed (subst IsFormed here (formed_alone (drop at file) opens sound.formed));
-      places = λ key.
-          let rows : rows_of (drop at file) ≡ rows_of b = sym (rows_alone (drop at file) opens) ∙ ap rows_of here in
-          let place : at + 25 ≡ 16 + length (joined s.before) + 25 = omega (arith, place_of file at known s) in
-          taken key
-          ∙ placed_same (at + 25) (rows_of_batch (drop at file)) known (places_in 16 s.before nowhere) s.places key
-          ∙ ap₂ (λ (k : ℕ) (r : List ℕ). placed k (rows_in (length r / 24) r) (places_in 16 s.before nowhere) key) place rows
-          ∙ sym (places_in-push 16 s.before b nowhere key);
+      knows = knows_next at s.before b (rows_of (drop at file)) known new s.knows (place_of file at known s) (sym (rows_alone (drop at file) opens) ∙ ap rows_of here) learns;
     }
 
 -- the batches so far, and those of the rest
-pub recovered_so_far : (file : List ℕ) (at m : ℕ) (known : ℕ → Option Place) → (s : StandsTo at file known) → length file ≡ length s.before + m → recovered file ≡ s.before ++ batches m (drop at file)
+pub recovered_so_far : (file : List ℕ) (at m : ℕ) (known : Index) → (s : StandsTo at file known) → length file ≡ length s.before + m → recovered file ≡ s.before ++ batches m (drop at file)
 recovered_so_far file at m known s e =
     let r = drop at file in
     let parts : file ≡ header ++ (joined s.before ++ r) = sym (take-append-drop at file) ∙ ap (λ (l : List ℕ). l ++ r) s.front ∙ append_assoc header (joined s.before) r in
     ap recovered parts ∙ recovered_of (joined s.before ++ r) ∙ batches-joined s.before _ m r (ap length (sym parts) ∙ e) s.whole
 
-few_so_far : (file : List ℕ) (at : ℕ) (known : ℕ → Option Place) → (s : StandsTo at file known) → length s.before + 16 ≤ at
+few_so_far : (file : List ℕ) (at : ℕ) (known : Index) → (s : StandsTo at file known) → length s.before + 16 ≤ at
 few_so_far file at known s = omega (arith, place_of file at known s, few_batches s.before s.whole)
 
 -- where no open batch stands, the walk has found all
-pub found_all : (file : List ℕ) (at : ℕ) (known : ℕ → Option Place) → (s : StandsTo at file known) → is_open (drop at file) ≡ false → recovered file ≡ s.before
+pub found_all : (file : List ℕ) (at : ℕ) (known : Index) → (s : StandsTo at file known) → is_open (drop at file) ≡ false → recovered file ≡ s.before
 found_all file at known s shut =
     let m = length file - length s.before in
     let few = few_so_far file at known s in
     recovered_so_far file at m known s (omega (arith, s.within)) ∙ ap (λ (l : List (List ℕ)). s.before ++ l) (batches_end m (drop at file) shut) ∙ append-nil s.before
 
-pub ends_here : (file : List ℕ) (at : ℕ) (known : ℕ → Option Place) → StandsTo at file known → is_open (drop at file) ≡ false → EndsAt at file
+pub ends_here : (file : List ℕ) (at : ℕ) (known : Index) → StandsTo at file known → is_open (drop at file) ≡ false → EndsAt at file
 ends_here file at known s shut =
     let all = found_all file at known s shut in
     record {
@@ -219,17 +240,17 @@ ends_here file at known s shut =
       ends = shut;
     }
 
-pub all_summed : (file : List ℕ) (at : ℕ) (known : ℕ → Option Place) → StandsTo at file known → is_open (drop at file) ≡ false → AreSummed (recovered file)
+pub all_summed : (file : List ℕ) (at : ℕ) (known : Index) → StandsTo at file known → is_open (drop at file) ≡ false → AreSummed (recovered file)
 all_summed file at known s shut = subst AreSummed (sym (found_all file at known s shut)) s.summed
 
-pub all_formed : (file : List ℕ) (at : ℕ) (known : ℕ → Option Place) → StandsTo at file known → is_open (drop at file) ≡ false → AreFormed (recovered file)
+pub all_formed : (file : List ℕ) (at : ℕ) (known : Index) → StandsTo at file known → is_open (drop at file) ≡ false → AreFormed (recovered file)
 all_formed file at known s shut = subst AreFormed (sym (found_all file at known s shut)) s.formed
 
-pub all_places : (file : List ℕ) (at : ℕ) (known : ℕ → Option Place) → StandsTo at file known → is_open (drop at file) ≡ false → (key : ℕ) → known key ≡ places_in 16 (recovered file) nowhere key
-all_places file at known s shut key = s.places key ∙ ap (λ (l : List (List ℕ)). places_in 16 l nowhere key) (sym (found_all file at known s shut))
+pub all_known : (file : List ℕ) (at : ℕ) (known : Index) → StandsTo at file known → is_open (drop at file) ≡ false → Knows known (recovered file)
+all_known file at known s shut = subst (Knows known) (sym (found_all file at known s shut)) s.knows
 
 -- an open batch that isn't sound is one that counts
-pub not_sound : (file : List ℕ) (at : ℕ) (known : ℕ → Option Place) → StandsTo at file known → is_open (drop at file) ≡ true → (IsSound (drop at file) → ⊥) → AreSummed (recovered file) → AreFormed (recovered file) → ⊥
+pub not_sound : (file : List ℕ) (at : ℕ) (known : Index) → StandsTo at file known → is_open (drop at file) ≡ true → (IsSound (drop at file) → ⊥) → AreSummed (recovered file) → AreFormed (recovered file) → ⊥
 not_sound file at known s opens differs summed formed =
     let m = length file - length s.before in
     let few = few_so_far file at known s in

@@ -1,35 +1,40 @@
--- What is stored when nothing is held, when a blob is added, and when all is flushed.
-use Rattle.std.proofs.Common.{◌≡◌, ◌⊎◌, inl, inr, refl, sym, ◌∙◌, ap, ap₂, subst, ℕ, zero, suc, ◌+◌, ◌-◌, ◌*◌, ◌/◌, ◌<◌, ◌≤◌, ◌^◌, true, false, Bool, List, [], ◌∷◌, ◌++◌, length, take, drop, arith, append_assoc, length-append, length-drop, drop-drop, drop_at, take_all, take_at, Option, Some, None, cond, nat_eq}
+-- What is stored when nothing is held, when a blob or a name is added, and when all is flushed.
+use Rattle.std.proofs.Common.{◌≡◌, ◌⊎◌, inl, inr, refl, sym, ◌∙◌, ap, ap₂, subst, ℕ, ◌+◌, ◌-◌, ◌*◌, ◌<◌, ◌≤◌, ◌^◌, true, false, Bool, if◌then◌else◌, List, [], ◌∷◌, ◌++◌, length, take, drop, arith}
+use Rattle.std.proofs.Common.{append_assoc, append-nil, length-append, drop-drop, drop_at, take_all, Option, Some, None, cond, nat_eq}
 use Rattle.std.specs.Prelude.{option_map}
 use Rattle.std.specs.Int.{to_le_bytes, w128, w32}
 use Rattle.std.specs.Map.{update}
-use Rattle.std.proofs.lemmas.Bool.{cases_Bool}
-use Rattle.std.proofs.lemmas.List.{take-append-le, drop-append-le, nil_from_length}
+use Rattle.std.specs.Str.{IsUtf8, bytes_eq}
+use Rattle.std.proofs.lemmas.Bool.{cases_Bool, eq-eqb, ne_eqb}
 use Rattle.std.proofs.lemmas.Nat.{from_le_bytes-to_le_bytes_4}
 use Rattle.sqlite_wal.specs.Format.{part}
 use Rattle.sqlite_wal.proofs.PartLemmas.{same_parts}
 use Rattle.blob_file.specs.File.{body_bytes}
-use Rattle.blob_file.specs.Format.{header, head_bytes, joined, rows_of, AreBatches}
+use Rattle.blob_file.specs.Format.{header, joined, AreBatches}
 use Rattle.blob_file.specs.Log.{SameBelow, new_batch}
-use Rattle.blob_file.specs.Rows.{Body, body_at, nowhere, places_in, placed, place_at, row_bytes, row_of, rows_in, rows_of_batch, size_of_place, size_of_row, total, AreFormed, AreWhole, stored_in}
+use Rattle.blob_file.specs.Rows.{Body, body_at, blobs_in, is_name, key_given, name_len, named_in, names_in, nowhere, places_in, placed, place_at, row_bytes, row_of, size_of_place, size_of_row}
+use Rattle.blob_file.specs.Rows.{told, AreFormed, AreWhole, stored_in}
 use Rattle.blob_file.specs.declared.rows.Row.{Row}
 use Rattle.blob_file.specs.declared.rows.Place.{Place}
 use Rattle.blob_file.proofs.BatchFiles.{joined-push, part_front}
-use Rattle.blob_file.proofs.Indexes.{placed_none, placed_same, row_of_front, total_none}
 use Rattle.blob_file.proofs.KeyBytes.{read_back}
 use Rattle.blob_file.proofs.NewBatches.{rows_of-new_batch}
 use Rattle.blob_file.proofs.Placing.{IsHere, all_here, body_in_file, bytes_flushed, bytes_held, places_within, same_bodies}
-use Rattle.blob_file.proofs.Scans.{places_in-push}
+use Rattle.blob_file.proofs.RowCuts.{IsRow, placed_nothing, placed_behind, placed_blob, placed_name, row_len-is, row_of-append, told_behind, told_blob, told_name, told_nothing, whole-append, whole_blob, whole_name, whole_nil}
+use Rattle.blob_file.proofs.Scans.{named_in-push, places_in-push}
 
 -- the blob at a place, by its bytes
 abbrev pub body_of : (Place → List ℕ) → Place → Body
 body_of bytes p = record { children = p.children; bytes = bytes p }
 
 pub idle_rows : (rows : List ℕ) → rows ≡ [] → AreWhole 0 rows
-idle_rows rows none = rw none (record { whole = refl; sized = total_none 0 [] refl })
+idle_rows rows none = rw none whole_nil
 
-pub idle_places : (first : ℕ) (rows : List ℕ) (known : ℕ → Option Place) (q : ℕ) → rows ≡ [] → placed first (rows_in (length rows / 24) rows) known q ≡ known q
-idle_places first rows known q none = placed_none first (length rows / 24) rows known q (ap (λ (l : List ℕ). length l / 24) none)
+pub idle_places : (first : ℕ) (rows : List ℕ) (known : ℕ → Option Place) (q : ℕ) → rows ≡ [] → placed first (blobs_in rows) known q ≡ known q
+idle_places first rows known q none = ap (λ (l : List ℕ). placed first (blobs_in l) known q) none ∙ placed_nothing first known q
+
+pub idle_names : (rows : List ℕ) (known : List ℕ → Option ℕ) (q : List ℕ) → rows ≡ [] → told (names_in rows) known q ≡ known q
+idle_names rows known q none = ap (λ (l : List ℕ). told (names_in l) known q) none ∙ told_nothing known q
 
 -- where nothing is held, what is stored is what the batches have
 pub idle_stored : (file bodies : List ℕ) (gate : ℕ) (bs : List (List ℕ)) (known : ℕ → Option Place) → take gate file ≡ header ++ joined bs → gate ≡ 16 + length (joined bs) → AreBatches bs → AreFormed bs → ((q : ℕ) → known q ≡ places_in 16 bs nowhere q)
@@ -43,51 +48,72 @@ pub row_back : (r : Row) → r.key < 2 ^ 128 → r.children < 2 ^ 32 → r.bytes
 unfolding row_of part
 row_back r key children bytes = rw (read_back r.key key, from_le_bytes-to_le_bytes_4 r.children children, from_le_bytes-to_le_bytes_4 r.bytes bytes) refl
 
--- one row more
-rows_in-push : (n : ℕ) (rows row : List ℕ) → length rows ≡ 24 * n → length row ≡ 24 → rows_in (suc n) (rows ++ row) ≡ rows_in n rows ++ row_of row ∷ []
-unfolding rows_in
-rows_in-push zero rows row size one = ap (λ (l : List ℕ). row_of (l ++ row) ∷ []) (nil_from_length rows (omega (arith, size)))
-rows_in-push (suc n) rows row size one =
-    let long : 24 ≤ length rows = omega (arith, size) in
-    let first : row_of (rows ++ row) ≡ row_of rows = sym (row_of_front (rows ++ row)) ∙ ap row_of (take-append-le 24 rows row long) ∙ row_of_front rows in
-    ap₂ (λ (r : Row) (rs : List Row). r ∷ rs) first (ap (rows_in (suc n)) (drop-append-le 24 rows row long) ∙ rows_in-push n (drop 24 rows) row (omega (arith, length-drop 24 rows, size)) one)
+-- the row of a blob is one row, and says what it was made of
+blob_row : (r : Row) → row_of (row_bytes r) ≡ r → r.children < 4294967295 → IsRow (row_bytes r) × (is_name (row_of (row_bytes r)) ≡ false)
+blob_row r back few =
+    let blob : is_name r ≡ false = ne_eqb r.children 4294967295 (λ is. absurd (omega (arith, few, is))) in
+    (row_len-is (row_bytes r) r back ∙ ap (λ (t : Bool). 24 + (if t then r.bytes else 0)) blob, ap is_name back ∙ blob)
 
-total-push : (rs : List Row) (r : Row) → total (rs ++ r ∷ []) ≡ total rs + size_of_row r
-unfolding total
-total-push [] r = omega arith
-total-push (x ∷ rs) r = omega (arith, total-push rs r)
+pub added_rows : (bodies body rows : List ℕ) (r : Row) → AreWhole (length bodies) rows → row_of (row_bytes r) ≡ r → r.children < 4294967295 → size_of_row r ≡ length body → AreWhole (length (bodies ++ body)) (rows ++ row_bytes r)
+added_rows bodies body rows r held back few size =
+    let one = blob_row r back few in
+    let sum : length bodies + size_of_row (row_of (row_bytes r)) ≡ length (bodies ++ body) = omega (arith, ap size_of_row back, size, length-append bodies body) in
+    subst (λ (n : ℕ). AreWhole n (rows ++ row_bytes r)) sum (whole-append _ _ rows (row_bytes r) held (whole_blob _ one.0 one.1))
 
-placed-push : (at : ℕ) (rs : List Row) (r : Row) (known : ℕ → Option Place) (q : ℕ) → placed at (rs ++ r ∷ []) known q ≡ update nat_eq (placed at rs known) r.key (Some (place_at (at + total rs) r)) q
-unfolding placed total
-placed-push at [] r known q = let here : at ≡ at + 0 = omega arith in ap (λ (k : ℕ). update nat_eq known r.key (Some (place_at k r)) q) here
-placed-push at (x ∷ rs) r known q =
-    let there : at + size_of_row x + total rs ≡ at + (size_of_row x + total rs) = omega arith in
-    placed-push (at + size_of_row x) rs r (update nat_eq known x.key (Some (place_at at x))) q
-    ∙ ap (λ (k : ℕ). update nat_eq (placed (at + size_of_row x) rs (update nat_eq known x.key (Some (place_at at x)))) r.key (Some (place_at k r)) q) there
-
-next_count : (n size : ℕ) → 24 * (size / 24) ≡ size → n ≡ size / 24 → (size + 24) / 24 ≡ suc n
-next_count n size whole e = omega (arith, whole, e)
-
-rows_now : (rows : List ℕ) (r : Row) → 24 * (length rows / 24) ≡ length rows → row_of (row_bytes r) ≡ r → rows_in (length (rows ++ row_bytes r) / 24) (rows ++ row_bytes r) ≡ rows_in (length rows / 24) rows ++ r ∷ []
-rows_now rows r whole back =
-    let count : length (rows ++ row_bytes r) / 24 ≡ suc (length rows / 24) = ap (λ (k : ℕ). k / 24) (length-append rows (row_bytes r)) ∙ next_count (length rows / 24) (length rows) whole refl in
-    ap (λ (k : ℕ). rows_in k (rows ++ row_bytes r)) count ∙ rows_in-push (length rows / 24) rows (row_bytes r) (sym whole) refl ∙ ap (λ (x : Row). rows_in (length rows / 24) rows ++ x ∷ []) back
-
-pub added_rows : (bodies body rows : List ℕ) (r : Row) → AreWhole (length bodies) rows → row_of (row_bytes r) ≡ r → size_of_row r ≡ length body → AreWhole (length (bodies ++ body)) (rows ++ row_bytes r)
-added_rows bodies body rows r held back size = record {
-  whole = omega (arith, held.whole, length-append rows (row_bytes r));
-  sized = ap total (rows_now rows r held.whole back) ∙ total-push (rows_in (length rows / 24) rows) r ∙ omega (arith, held.sized, size, length-append bodies body);
-}
-
-pub added_places : (first : ℕ) (bodies rows : List ℕ) (r : Row) (known new base : ℕ → Option Place) → AreWhole (length bodies) rows → row_of (row_bytes r) ≡ r
-    → ((q : ℕ) → new q ≡ update nat_eq known r.key (Some (place_at (first + length bodies) r)) q) → ((q : ℕ) → known q ≡ placed first (rows_in (length rows / 24) rows) base q)
-    → (q : ℕ) → new q ≡ placed first (rows_in (length (rows ++ row_bytes r) / 24) (rows ++ row_bytes r)) base q
-added_places first bodies rows r known new base held back updates places q =
-    let end : first + length bodies ≡ first + total (rows_in (length rows / 24) rows) = omega (arith, held.sized) in
+pub added_places : (first : ℕ) (bodies rows : List ℕ) (r : Row) (known new base : ℕ → Option Place) → AreWhole (length bodies) rows → row_of (row_bytes r) ≡ r → r.children < 4294967295
+    → ((q : ℕ) → new q ≡ update nat_eq known r.key (Some (place_at (first + length bodies) r)) q) → ((q : ℕ) → known q ≡ placed first (blobs_in rows) base q)
+    → (q : ℕ) → new q ≡ placed first (blobs_in (rows ++ row_bytes r)) base q
+added_places first bodies rows r known new base held back few updates places q =
+    let one = blob_row r back few in
     updates q
-    ∙ ap₂ (λ (x : Option Place) (k : ℕ). cond (nat_eq r.key q) (Some (place_at k r)) x) (places q) end
-    ∙ sym (placed-push first (rows_in (length rows / 24) rows) r base q)
-    ∙ ap (λ (rs : List Row). placed first rs base q) (sym (rows_now rows r held.whole back))
+    ∙ ap (λ (x : Option Place). cond (nat_eq r.key q) (Some (place_at (first + length bodies) r)) x) (places q)
+    ∙ ap (λ (x : Row). update nat_eq (placed first (blobs_in rows) base) x.key (Some (place_at (first + length bodies) x)) q) (sym back)
+    ∙ sym (placed_blob (first + length bodies) (row_bytes r) (placed first (blobs_in rows) base) q one.0 one.1)
+    ∙ sym (placed_behind first (length bodies) rows (row_bytes r) base q held)
+
+-- the row of a blob says nothing of names
+pub added_names : (bodies rows : List ℕ) (r : Row) (base : List ℕ → Option ℕ) (q : List ℕ) → AreWhole (length bodies) rows → row_of (row_bytes r) ≡ r → r.children < 4294967295
+    → told (names_in (rows ++ row_bytes r)) base q ≡ told (names_in rows) base q
+added_names bodies rows r base q held back few =
+    let one = blob_row r back few in
+    told_behind (length bodies) rows (row_bytes r) base q held ∙ told_blob (row_bytes r) (told (names_in rows) base) q one.0 one.1
+
+-- the row of a name is one row, and says what it was made of
+name_row : (r : Row) (name : List ℕ) → row_of (row_bytes r) ≡ r → r.children ≡ 4294967295 → r.bytes ≡ length name
+    → IsRow (row_bytes r ++ name) × (row_of (row_bytes r ++ name) ≡ r) × (is_name (row_of (row_bytes r ++ name)) ≡ true)
+name_row r name back mark size =
+    let says : row_of (row_bytes r ++ name) ≡ r = row_of-append (row_bytes r) name (omega arith) ∙ back in
+    let is : is_name r ≡ true = eq-eqb r.children 4294967295 mark in
+    (
+      row_len-is (row_bytes r ++ name) r says ∙ ap (λ (t : Bool). 24 + (if t then r.bytes else 0)) is ∙ omega (arith, size),
+      says,
+      ap is_name says ∙ is,
+    )
+
+pub named_rows : (held : ℕ) (rows name : List ℕ) (r : Row) → AreWhole held rows → row_of (row_bytes r) ≡ r → r.children ≡ 4294967295 → r.bytes ≡ length name → IsUtf8 name → AreWhole held (rows ++ (row_bytes r ++ name))
+named_rows held rows name r whole back mark size text =
+    let one = name_row r name back mark size in
+    let none : held + 0 ≡ held = omega arith in
+    subst (λ (n : ℕ). AreWhole n (rows ++ (row_bytes r ++ name))) none (whole-append held 0 rows (row_bytes r ++ name) whole (whole_name _ one.0 one.2 text))
+
+pub named_names : (held : ℕ) (rows name : List ℕ) (r : Row) (known new base : List ℕ → Option ℕ) → AreWhole held rows → row_of (row_bytes r) ≡ r → r.children ≡ 4294967295 → r.bytes ≡ length name
+    → ((q : List ℕ) → new q ≡ update bytes_eq known name (key_given r.key) q) → ((q : List ℕ) → known q ≡ told (names_in rows) base q)
+    → (q : List ℕ) → new q ≡ told (names_in (rows ++ (row_bytes r ++ name))) base q
+named_names held rows name r known new base whole back mark size updates names q =
+    let one = name_row r name back mark size in
+    updates q
+    ∙ ap (λ (x : Option ℕ). cond (bytes_eq name q) (key_given r.key) x) (names q)
+    ∙ ap (λ (x : Row). update bytes_eq (told (names_in rows) base) name (key_given x.key) q) (sym one.1)
+    ∙ sym (told_name (row_bytes r ++ name) (told (names_in rows) base) q one.0 one.2)
+    ∙ sym (told_behind held rows (row_bytes r ++ name) base q whole)
+
+-- and nothing of blobs
+pub named_places : (first held : ℕ) (rows name : List ℕ) (r : Row) (base : ℕ → Option Place) (q : ℕ) → AreWhole held rows → row_of (row_bytes r) ≡ r → r.children ≡ 4294967295 → r.bytes ≡ length name
+    → placed first (blobs_in (rows ++ (row_bytes r ++ name))) base q ≡ placed first (blobs_in rows) base q
+named_places first held rows name r base q whole back mark size =
+    let one = name_row r name back mark size in
+    placed_behind first held rows (row_bytes r ++ name) base q whole
+    ∙ placed_name (first + held) (row_bytes r ++ name) (placed first (blobs_in rows) base) q one.0 one.2
 
 part_back : (a b : List ℕ) (k n : ℕ) → part (a ++ b) (length a + k) n ≡ part b k n
 unfolding part
@@ -124,14 +150,19 @@ added_stored file bodies body gate r known new here size updates q = ap (option_
     stays p (inr high) = ap (λ (b : List ℕ). record { children = p.children; bytes = b }) (bytes_held file (bodies ++ body) (gate + 25) p high.0 ∙ part_front bodies body (p.at - (gate + 25)) (size_of_place p) (omega (arith, high)) ∙ sym (bytes_held file bodies (gate + 25) p high.0))
 
 -- the places once the held batch counts
-pub flushed_places : (gate : ℕ) (bs : List (List ℕ)) (bodies rows : List ℕ) (q : ℕ) → gate ≡ 16 + length (joined bs) → length bodies < 2 ^ 64 → length rows < 2 ^ 64 → placed (gate + 25) (rows_in (length rows / 24) rows) (places_in 16 bs nowhere) q ≡ places_in 16 (bs ++ new_batch bodies rows ∷ []) nowhere q
+pub flushed_places : (gate : ℕ) (bs : List (List ℕ)) (bodies rows : List ℕ) (q : ℕ) → gate ≡ 16 + length (joined bs) → length bodies < 2 ^ 64 → length rows < 2 ^ 64 → placed (gate + 25) (blobs_in rows) (places_in 16 bs nowhere) q ≡ places_in 16 (bs ++ new_batch bodies rows ∷ []) nowhere q
 flushed_places gate bs bodies rows q place few short =
-    ap₂ (λ (k : ℕ) (l : List ℕ). placed (k + 25) (rows_in (length l / 24) l) (places_in 16 bs nowhere) q) place (sym (rows_of-new_batch bodies rows few short))
+    ap₂ (λ (k : ℕ) (l : List ℕ). placed (k + 25) (blobs_in l) (places_in 16 bs nowhere) q) place (sym (rows_of-new_batch bodies rows few short))
     ∙ sym (places_in-push 16 bs (new_batch bodies rows) nowhere q)
+
+-- the names once the held batch counts
+pub flushed_names : (bs : List (List ℕ)) (bodies rows name : List ℕ) → length bodies < 2 ^ 64 → length rows < 2 ^ 64 → told (names_in rows) (named_in bs) name ≡ named_in (bs ++ new_batch bodies rows ∷ []) name
+flushed_names bs bodies rows name few short =
+    ap (λ (l : List ℕ). told (names_in l) (named_in bs) name) (sym (rows_of-new_batch bodies rows few short)) ∙ sym (named_in-push bs (new_batch bodies rows) name)
 
 -- what was held is then what the batches have
 pub flushed_stored : (file bodies rows : List ℕ) (gate : ℕ) (bs : List (List ℕ)) (known : ℕ → Option Place) → take gate file ≡ header ++ joined bs → gate ≡ 16 + length (joined bs) → AreBatches bs → AreFormed bs → AreWhole (length bodies) rows → length bodies < 2 ^ 64 → length rows < 2 ^ 64
-    → ((q : ℕ) → known q ≡ placed (gate + 25) (rows_in (length rows / 24) rows) (places_in 16 bs nowhere) q)
+    → ((q : ℕ) → known q ≡ placed (gate + 25) (blobs_in rows) (places_in 16 bs nowhere) q)
     → (q : ℕ) → stored_in (bs ++ new_batch bodies rows ∷ []) q ≡ option_map (body_of (body_bytes file bodies (gate + 25))) (known q)
 unfolding part
 flushed_stored file bodies rows gate bs known front place whole formed held few short same q =

@@ -7,7 +7,7 @@ use Rattle.blob_file.specs.Format.{head_bytes, recovered, AreSummed}
 use Rattle.blob_file.specs.Log.{IsReady}
 use Rattle.blob_file.specs.Rows.{AreFormed}
 use Rattle.blob_file.specs.declared.file_error.FileError.{FileError}
-use Rattle.blob_file.specs.declared.file_error.FileError.TheVariants.{OutOfMemory, NotBlobs, Damaged, Failed, Shut, TooLong}
+use Rattle.blob_file.specs.declared.file_error.FileError.TheVariants.{OutOfMemory, Failed, Shut, TooLong}
 use Rattle.blob_file.specs.declared.log.Log.{Log}
 use Rattle.blob_file.specs.declared.staging.Plan.{Plan}
 
@@ -23,19 +23,15 @@ pub record IsPlan (gate bodies : ℕ) (rows : List ℕ) (plan : Plan) : Type 0 w
 abbrev pub PlanFails : ℕ → ℕ → ℕ → FileError → Type 0
 PlanFails gate bodies rows OutOfMemory = ⊤
 PlanFails gate bodies rows TooLong = 2 ^ 64 ≤ gate + 25 + bodies + rows
-PlanFails gate bodies rows NotBlobs = ⊥
-PlanFails gate bodies rows Damaged = ⊥
-PlanFails gate bodies rows Failed = ⊥
-PlanFails gate bodies rows Shut = ⊥
+PlanFails gate bodies rows _ = ⊥
 
 -- why a batch isn't added
 abbrev pub AppendFails : Bool → ℕ → ℕ → ℕ → FileError → Type 0
 AppendFails whole end before after OutOfMemory = ⊤
 AppendFails whole end before after TooLong = 2 ^ 64 ≤ end
-AppendFails whole end before after NotBlobs = ⊥
-AppendFails whole end before after Damaged = ⊥
 AppendFails whole end before after Failed = MoreFaults before after
 AppendFails whole end before after Shut = whole ≡ false
+AppendFails whole end before after _ = ⊥
 
 -- The file is ready for the next flush, unless one failed.
 pub record IsOpen {D : Type 0} (g : Ghosts D) (log : Log D) : Type 0 where

@@ -1,11 +1,15 @@
 //! Blobs by key in a file of batches, flushed or held.
 
-ghost use Rattle.blob_file.specs.{File.{AddFails, FetchFails, IsSettled, ReadFails, SameBlobs, body_bytes, flushed, found_body, stored}, Format.{recovered}, Opening.{KeepsBatches, KeepsBytesUnlessFailed, Refuses}, Rows.{size_of_place, stored_in}};
+ghost use Rattle.blob_file.specs.File.{AddFails, FetchFails, IsSettled, NamesStand, Same, SameBlobs, SameNames};
+ghost use Rattle.blob_file.specs.File.{body_bytes, content, content_of, flushed, found_body, named, stored};
+ghost use Rattle.blob_file.specs.Opening.{CanOpen, FailsFor, KeepsBatches, KeepsBytesUnlessFailed, Refuses};
+ghost use Rattle.blob_file.specs.{Format.{recovered}, Rows.{size_of_place}};
 ghost use Rattle.blob_file.specs.declared.file_error.FileError.TheVariants.{Damaged, OutOfMemory};
-ghost use Rattle.sqlite_wal.specs.Format.{part};
-ghost use Rattle.sqlite_wal.specs.Reads.{IsClean, OnlyReads};
+ghost use Rattle.sqlite_disk.specs.Disk.{MoreFaults};
+ghost use Rattle.sqlite_wal.specs.{Format.{part}, Reads.{IsClean, OnlyReads}};
 ghost use Rattle.std.specs.{HashMap.{get}, Map.{update}, Option.{SomeIff}};
-ghost use Rattle.std.specs.Prelude.{IfErr, IfNone, IfOk, IfSome, IsTrue, List, OnErr, OnOk, Some, length, nat_eq, ℕ, ◌*◌, ◌+◌, ◌-◌, ◌<◌, ◌≡◌, ◌≤◌, ◌⊎◌};
+ghost use Rattle.std.specs.Prelude.{IfErr, IfNone, IfOk, IfSome, IsTrue, List, OnErr, OnOk, Some, length, nat_eq, ℕ};
+ghost use Rattle.std.specs.Prelude.{◌*◌, ◌+◌, ◌-◌, ◌<◌, ◌≡◌, ◌≤◌, ◌⊎◌};
 
 use crate::file_error::FileError;
 use crate::holding::{hold, next_place};
@@ -24,11 +28,11 @@ pub struct FoundBlob {
     pub body: Vec<u8>,
 }
 
-/// A file of blobs, with where each of them stands, and those that wait for a flush.
+/// A file of blobs, with where each of them stands, the names, and what waits for a flush.
 #[derive(Drop)]
 pub struct BlobFile<D: Disk> {
     pub log: Log<D>,
-    /// The places of the blobs in the file, and of those that are held as they will stand there.
+    /// What the file's batches say, and the next one.
     pub index: Index,
     /// The bodies of the next batch.
     pub bodies: Vec<u8>,
@@ -76,10 +80,14 @@ fn read_body<D: Disk>(
     place: Place,
 ) -> Result<Vec<u8>, FileError>
     requires usable { IsTrue (D.is_usable disk.old) }
-    requires within { IsClean D.Disk disk.old → (gate + 25 ≤ place.at → ⊥) → place.at + size_of_place place ≤ length (D.seen disk.old) }
-    requires held { IsClean D.Disk disk.old → gate + 25 ≤ place.at → place.at - (gate + 25) + size_of_place place ≤ length bodies.now }
-    ensures body { IfOk result (λ body. IsClean D.Disk disk.new → body.items ≡ body_bytes (D.seen disk.old) bodies.now (gate + 25) place) }
-    ensures refused { IfErr result (ReadFails (IsClean D.Disk disk.new) (D.faults disk.old) (D.faults disk.new)) }
+    requires within { IsClean D.Disk disk.old → (gate + 25 ≤ place.at → ⊥)
+        → place.at + size_of_place place ≤ length (D.seen disk.old) }
+    requires held { IsClean D.Disk disk.old → gate + 25 ≤ place.at
+        → place.at - (gate + 25) + size_of_place place ≤ length bodies.now }
+    ensures body { IfOk result (λ body. IsClean D.Disk disk.new
+        → body.items ≡ body_bytes (D.seen disk.old) bodies.now (gate + 25) place) }
+    ensures refused { IfErr result (FailsFor (IsClean D.Disk disk.new → ⊥)
+        (MoreFaults (D.faults disk.old) (D.faults disk.new))) }
     ensures same { OnlyReads D.Disk disk.old disk.new }
 {
     match held_at(gate, place) {
@@ -97,12 +105,15 @@ impl<D: Disk> BlobFile<D> {
     /// `Failed` leaves a file that stands for the same batches.
     pub fn open(alloc: Global, disk: D) -> Result<BlobFile<D>, (FileError, D)>
         requires usable { IsTrue (D.is_usable disk) }
-        ensures found { IfOk result (λ it. IsClean D.Disk it.log.disk → SameBlobs (stored_in (recovered (D.seen disk))) (stored D.Disk it)) }
-        ensures flushed { IfOk result (λ it. IsClean D.Disk it.log.disk → recovered (D.seen it.log.disk) ≡ recovered (D.seen disk)) }
+        ensures found { IfOk result (λ it. IsClean D.Disk it.log.disk
+            → Same (content_of (recovered (D.seen disk))) (content D.Disk it)) }
+        ensures flushed { IfOk result (λ it. IsClean D.Disk it.log.disk
+            → recovered (D.seen it.log.disk) ≡ recovered (D.seen disk)) }
         ensures settled { IfOk result (λ it. IsSettled D.Disk it × IsTrue it.log.is_whole) }
         ensures moment { IfOk result (λ it. KeepsBatches D.Disk disk it.log.disk) }
         ensures moment_err { IfErr result (λ e. KeepsBatches D.Disk disk e.1) }
-        ensures refused { IfErr result (λ e. Refuses (IsClean D.Disk e.1) (D.seen disk) (D.faults disk) (D.faults e.1) e.0) }
+        ensures refused { IfErr result (λ e. Refuses (IsClean D.Disk e.1) (D.seen disk) (D.faults disk)
+            (D.faults e.1) e.0) }
         ensures kept { IfErr result (λ e. KeepsBytesUnlessFailed D.Disk disk e.1 e.0) }
     {
         match Log::open(alloc, disk) {
@@ -118,9 +129,9 @@ impl<D: Disk> BlobFile<D> {
 
     /// Returns where the blob of a key stands, without a call of the disk.
     pub fn find(&self, key: u128) -> Option<Place>
-        ensures { result ≡ get nat_eq self.now.index key }
+        ensures { result ≡ get nat_eq self.now.index.places key }
     {
-        self.index.get(&key).copied()
+        self.index.places.get(&key).copied()
     }
 
     /// Fetches the blob of a key, flushed or held, or None if there is none.
@@ -130,11 +141,13 @@ impl<D: Disk> BlobFile<D> {
     /// `OutOfMemory`, `Failed`, or `Shut` after a flush that failed. Nothing changes.
     pub fn fetch(&mut self, alloc: Global, key: u128) -> Result<Option<FoundBlob>, FileError>
         requires settled { IsSettled D.Disk self.old }
-        ensures found { IfOk result (λ found. IsClean D.Disk self.new.log.disk → found_body found ≡ stored D.Disk self.old key) }
-        ensures refused { IfErr result (FetchFails (IsClean D.Disk self.new.log.disk) self.old.log.is_whole (D.faults self.old.log.disk) (D.faults self.new.log.disk)) }
+        ensures found { IfOk result (λ found. IsClean D.Disk self.new.log.disk
+            → found_body found ≡ stored D.Disk self.old key) }
+        ensures refused { IfErr result (FetchFails (IsClean D.Disk self.new.log.disk) self.old.log.is_whole
+            (D.faults self.old.log.disk) (D.faults self.new.log.disk)) }
         ensures settled { IsSettled D.Disk self.new }
-        ensures same { SameBlobs (stored D.Disk self.old) (stored D.Disk self.new) }
-        ensures same_flushed { SameBlobs (flushed D.Disk self.old) (flushed D.Disk self.new) }
+        ensures same { Same (content D.Disk self.old) (content D.Disk self.new) }
+        ensures same_flushed { Same (flushed D.Disk self.old) (flushed D.Disk self.new) }
         ensures same_whole { self.new.log.is_whole ≡ self.old.log.is_whole }
         ensures clean { IsClean D.Disk self.new.log.disk → IsClean D.Disk self.old.log.disk }
     {
@@ -163,7 +176,8 @@ impl<D: Disk> BlobFile<D> {
     /// # Errors
     ///
     /// `OutOfMemory`; `TooLong` if the body has 4 GiB or more behind its child keys, or would end at
-    /// 2^64 or above; `Shut` after a flush that failed. Nothing changes.
+    /// 2^64 or above, or there are 2^32 - 1 child keys; `Shut` after a flush that failed. Nothing
+    /// changes.
     pub fn add(&mut self, key: u128, children: u32, body: &[u8]) -> Result<(), FileError>
         requires settled { IsSettled D.Disk self.old }
         requires children { 16 * children ≤ length body.now }
@@ -171,6 +185,9 @@ impl<D: Disk> BlobFile<D> {
             ≡ update nat_eq (stored D.Disk self.old) key (Some (record { children = children; bytes = body.now })) q) }
         ensures refused { IfErr result (AddFails self.old.log.is_whole) }
         ensures kept { OnErr result (SameBlobs (stored D.Disk self.old) (stored D.Disk self.new)) }
+        ensures names { SameNames (named self.old) (named self.new) }
+        ensures stand { IsClean D.Disk self.new.log.disk → NamesStand (content D.Disk self.old)
+            → NamesStand (content D.Disk self.new) }
         ensures settled { IsSettled D.Disk self.new }
         ensures log { self.new.log ≡ self.old.log }
     {
@@ -184,7 +201,7 @@ impl<D: Disk> BlobFile<D> {
             return Err(FileError::TooLong);
         };
         hold(
-            &mut self.index,
+            &mut self.index.places,
             &mut self.bodies,
             &mut self.rows,
             row,
@@ -194,22 +211,29 @@ impl<D: Disk> BlobFile<D> {
         Ok(())
     }
 
-    /// Has all blobs that are held on the disk, whole: from `Ok` on, whatever a crash leaves has
-    /// them. Makes no call of the disk if none is held.
+    /// Has all blobs and names that are held on the disk, whole: from `Ok` on, whatever a crash
+    /// leaves has them. Makes no call of the disk if nothing is held.
     ///
     /// # Errors
     ///
-    /// `OutOfMemory` and `TooLong` change nothing. After `Failed` the blobs are still held, and the
-    /// next open finds all of them or none; the file goes on if nothing but a write failed, and else
-    /// answers `Shut` until it is opened anew.
+    /// `OutOfMemory` and `TooLong` change nothing. After `Failed` the blobs and names are still held,
+    /// and the next open finds all of them or none; the file goes on if nothing but a write failed,
+    /// and else answers `Shut` until it is opened anew.
     pub fn flush(&mut self, alloc: Global) -> Result<(), FileError>
         requires settled { IsSettled D.Disk self.old }
-        ensures flushed { OnOk result (IsTrue self.old.log.is_whole → IsClean D.Disk self.new.log.disk → SameBlobs (stored D.Disk self.old) (flushed D.Disk self.new)) }
-        ensures same { IsTrue self.new.log.is_whole → IsClean D.Disk self.new.log.disk → SameBlobs (stored D.Disk self.old) (stored D.Disk self.new) }
-        ensures any_moment { IsTrue self.old.log.is_whole → IsClean D.Disk self.new.log.disk → (c : List ℕ) → D.may_leave self.new.log.disk c
-            → SameBlobs (flushed D.Disk self.old) (stored_in (recovered c)) ⊎ SameBlobs (stored D.Disk self.old) (stored_in (recovered c)) }
-        ensures durable { OnOk result (IsTrue self.old.log.is_whole → IsClean D.Disk self.new.log.disk → (c : List ℕ) → D.may_leave self.new.log.disk c
-            → SameBlobs (stored D.Disk self.old) (stored_in (recovered c))) }
+        ensures flushed { OnOk result (IsTrue self.old.log.is_whole → IsClean D.Disk self.new.log.disk
+            → Same (content D.Disk self.old) (flushed D.Disk self.new)) }
+        ensures same { IsTrue self.new.log.is_whole → IsClean D.Disk self.new.log.disk
+            → Same (content D.Disk self.old) (content D.Disk self.new) }
+
+        // A crash in it or after it leaves what was flushed before, or that and all that was held.
+        ensures any_moment { IsTrue self.old.log.is_whole → IsClean D.Disk self.new.log.disk → (c : List ℕ)
+            → D.may_leave self.new.log.disk c → Same (flushed D.Disk self.old) (content_of (recovered c))
+            ⊎ Same (content D.Disk self.old) (content_of (recovered c)) }
+        ensures durable { OnOk result (IsTrue self.old.log.is_whole → IsClean D.Disk self.new.log.disk → (c : List ℕ)
+            → D.may_leave self.new.log.disk c → Same (content D.Disk self.old) (content_of (recovered c))) }
+        ensures opens_again { IsTrue self.old.log.is_whole → IsClean D.Disk self.new.log.disk → (c : List ℕ)
+            → D.may_leave self.new.log.disk c → CanOpen c }
         ensures settled { IsSettled D.Disk self.new }
         ensures was_whole { IsTrue self.new.log.is_whole → IsTrue self.old.log.is_whole }
         ensures clean { IsClean D.Disk self.new.log.disk → IsClean D.Disk self.old.log.disk }
@@ -221,5 +245,32 @@ impl<D: Disk> BlobFile<D> {
         self.bodies.clear();
         self.rows.clear();
         Ok(())
+    }
+    /// Flushes what is held, and gives the disk back.
+    ///
+    /// # Errors
+    ///
+    /// Those of `flush`, with the file as that leaves it: nothing that was held is lost.
+    pub fn close(self, alloc: Global) -> Result<D, (FileError, BlobFile<D>)>
+        requires settled { IsSettled D.Disk self }
+        ensures flushed { IfOk result (λ disk. IsTrue self.log.is_whole → IsClean D.Disk disk
+            → Same (content D.Disk self) (content_of (recovered (D.seen disk)))) }
+        ensures durable { IfOk result (λ disk. IsTrue self.log.is_whole → IsClean D.Disk disk → (c : List ℕ)
+            → D.may_leave disk c → Same (content D.Disk self) (content_of (recovered c))) }
+        ensures same { IfErr result (λ e. IsTrue e.1.log.is_whole → IsClean D.Disk e.1.log.disk
+            → Same (content D.Disk self) (content D.Disk e.1)) }
+        ensures any_moment { IfErr result (λ e. IsTrue self.log.is_whole → IsClean D.Disk e.1.log.disk → (c : List ℕ)
+            → D.may_leave e.1.log.disk c → Same (flushed D.Disk self) (content_of (recovered c))
+            ⊎ Same (content D.Disk self) (content_of (recovered c))) }
+        ensures settled { IfErr result (λ e. IsSettled D.Disk e.1) }
+    {
+        let mut file = self;
+        match file.flush(alloc) {
+            Ok(()) => {
+                let BlobFile { log, .. } = file;
+                Ok(log.disk)
+            }
+            Err(error) => Err((error, file)),
+        }
     }
 }

@@ -13,14 +13,16 @@ pub enum FileError {
     OutOfMemory,
     /// The file has bytes, and they aren't those of a file of blobs.
     NotBlobs,
-    /// The rows of a batch don't have the sum that the batch says.
+    /// The rows of a batch don't have the sum that the batch says, or say what can't be.
     Damaged,
     /// The disk failed.
     Failed,
     /// A flush failed, so the file has to be opened anew.
     Shut,
-    /// The file would have 2^64 bytes or more.
+    /// The file would have 2^64 bytes or more, or a part of a blob or a name 2^32.
     TooLong,
+    /// There is no blob for which the name could stand.
+    NoSuchBlob,
 }
 
 impl From<io::Error> for FileError {
@@ -56,6 +58,7 @@ impl fmt::Display for FileError {
             FileError::Failed => "the disk failed",
             FileError::Shut => "an earlier failure shut the file",
             FileError::TooLong => "the file would be too long",
+            FileError::NoSuchBlob => "no blob is stored under the key",
         })
     }
 }

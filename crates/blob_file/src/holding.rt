@@ -1,13 +1,14 @@
-//! The blobs that are held in memory until a flush.
+//! What is held in memory until a flush.
 
-ghost use Rattle.blob_file.specs.Rows.{place_at, row_bytes, size_of_row};
+ghost use Rattle.blob_file.specs.Rows.{key_given, place_at, row_bytes, size_of_row};
 ghost use Rattle.blob_file.specs.declared.file_error.FileError.TheVariants.{OutOfMemory};
-ghost use Rattle.std.specs.{HashMap.{get}, Map.{update}, Option.{SomeIff}};
-ghost use Rattle.std.specs.Prelude.{IfErr, OnErr, OnOk, Some, length, nat_eq, take, ℕ, ◌++◌, ◌+◌, ◌<◌, ◌^◌, ◌≡◌};
+ghost use Rattle.std.specs.{HashMap.{get, get_by_text}, Map.{update}, Option.{SomeIff}, Str.{bytes_eq}};
+ghost use Rattle.std.specs.Prelude.{IfErr, List, OnErr, OnOk, Some, nat_eq, ℕ, ◌++◌, ◌+◌, ◌<◌, ◌^◌, ◌≡◌};
 
 use crate::file_error::FileError;
-use crate::index::Index;
+use crate::index::{Names, Places, set_name};
 use crate::rows::{Place, Row, push_row};
+use std::alloc::Global;
 
 /// Returns where the body of a row's blob will stand behind those that are held, if it ends below
 /// 2^64.
@@ -26,27 +27,29 @@ pub fn next_place(gate: usize, held: usize, row: Row) -> Option<Place>
     }
 }
 
-/// Holds a blob, or a part of it where memory is out.
-fn try_hold(
-    index: &mut Index,
-    bodies: &mut Vec<u8>,
+/// Holds the row of a blob, and its place.
+fn hold_row(
+    places: &mut Places,
     rows: &mut Vec<u8>,
     row: Row,
     place: Place,
-    body: &[u8],
 ) -> Result<(), FileError>
-    ensures bodies { OnOk result (bodies.new.items ≡ bodies.old.items ++ body.now) }
     ensures rows { OnOk result (rows.new.items ≡ rows.old.items ++ row_bytes row) }
-    ensures index { OnOk result ((q : ℕ) → get nat_eq index.new q ≡ update nat_eq (get nat_eq index.old) row.key (Some place) q) }
-    ensures front { take (length bodies.old.items) bodies.new.items ≡ bodies.old.items }
-    ensures front_rows { take (length rows.old.items) rows.new.items ≡ rows.old.items }
-    ensures same_index { OnErr result ((q : ℕ) → get nat_eq index.new q ≡ get nat_eq index.old q) }
+    ensures places { OnOk result ((q : ℕ) → get nat_eq places.new q
+        ≡ update nat_eq (get nat_eq places.old) row.key (Some place) q) }
+    ensures same_rows { OnErr result (rows.new.items ≡ rows.old.items) }
+    ensures same_places { OnErr result ((q : ℕ) → get nat_eq places.new q ≡ get nat_eq places.old q) }
     ensures kind { IfErr result (λ e. e ≡ OutOfMemory) }
 {
-    bodies.extend_from_slice(body)?;
-    push_row(rows, row)?;
-    index.insert(row.key, place)?;
-    Ok(())
+    let listed = rows.len();
+    push_row(rows, row, &[])?;
+    match places.insert(row.key, place) {
+        Ok(_) => Ok(()),
+        Err(refused) => {
+            rows.truncate(listed);
+            Err(FileError::from(refused))
+        }
+    }
 }
 
 /// Holds a blob: its body, its row and its place.
@@ -55,7 +58,7 @@ fn try_hold(
 ///
 /// `OutOfMemory`. Nothing changes.
 pub fn hold(
-    index: &mut Index,
+    places: &mut Places,
     bodies: &mut Vec<u8>,
     rows: &mut Vec<u8>,
     row: Row,
@@ -64,17 +67,48 @@ pub fn hold(
 ) -> Result<(), FileError>
     ensures bodies { OnOk result (bodies.new.items ≡ bodies.old.items ++ body.now) }
     ensures rows { OnOk result (rows.new.items ≡ rows.old.items ++ row_bytes row) }
-    ensures index { OnOk result ((q : ℕ) → get nat_eq index.new q ≡ update nat_eq (get nat_eq index.old) row.key (Some place) q) }
+    ensures places { OnOk result ((q : ℕ) → get nat_eq places.new q
+        ≡ update nat_eq (get nat_eq places.old) row.key (Some place) q) }
     ensures same_bodies { OnErr result (bodies.new.items ≡ bodies.old.items) }
     ensures same_rows { OnErr result (rows.new.items ≡ rows.old.items) }
-    ensures same_index { OnErr result ((q : ℕ) → get nat_eq index.new q ≡ get nat_eq index.old q) }
+    ensures same_places { OnErr result ((q : ℕ) → get nat_eq places.new q ≡ get nat_eq places.old q) }
     ensures kind { IfErr result (λ e. e ≡ OutOfMemory) }
 {
-    let (held, listed) = (bodies.len(), rows.len());
-    match try_hold(index, bodies, rows, row, place, body) {
+    let held = bodies.len();
+    bodies.extend_from_slice(body)?;
+    match hold_row(places, rows, row, place) {
         Ok(()) => Ok(()),
         Err(refused) => {
             bodies.truncate(held);
+            Err(refused)
+        }
+    }
+}
+
+/// Holds a name: its row, and the key that it stands for from now on.
+///
+/// # Errors
+///
+/// `OutOfMemory`. Nothing changes.
+pub fn hold_name(
+    alloc: Global,
+    names: &mut Names,
+    rows: &mut Vec<u8>,
+    row: Row,
+    name: &str,
+) -> Result<(), FileError>
+    ensures rows { OnOk result (rows.new.items ≡ rows.old.items ++ (row_bytes row ++ name.now)) }
+    ensures named { OnOk result ((q : List ℕ) → get_by_text names.new q
+        ≡ update bytes_eq (get_by_text names.old) name.now (key_given row.key) q) }
+    ensures same_rows { OnErr result (rows.new.items ≡ rows.old.items) }
+    ensures same_names { OnErr result ((q : List ℕ) → get_by_text names.new q ≡ get_by_text names.old q) }
+    ensures kind { IfErr result (λ e. e ≡ OutOfMemory) }
+{
+    let listed = rows.len();
+    push_row(rows, row, name.as_bytes())?;
+    match set_name(alloc, names, name, row.key) {
+        Ok(()) => Ok(()),
+        Err(refused) => {
             rows.truncate(listed);
             Err(refused)
         }

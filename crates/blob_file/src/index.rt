@@ -1,73 +1,157 @@
-//! Where the blobs of a file stand, by their keys.
+//! What the batches of a file say: where the blobs stand, by their keys, and which keys the names
+//! stand for.
 
-ghost use Rattle.blob_file.specs.Rows.{AreWhole, placed, rows_in, total};
-ghost use Rattle.blob_file.specs.declared.file_error.FileError.TheVariants.{Damaged, OutOfMemory};
-ghost use Rattle.std.specs.HashMap.{get};
-ghost use Rattle.std.specs.Prelude.{Err, IfErr, OnOk, length, nat_eq, ℕ, ◌*◌, ◌+◌, ◌/◌, ◌<◌, ◌^◌, ◌≡◌, ◌≢◌, ◌≤◌, ◌⊎◌};
+ghost use Rattle.blob_file.specs.{Opening.{FailsFor}, Rows.{AreWhole, Knows, Learns, key_given, place_at, row_len}};
+ghost use Rattle.blob_file.specs.Rows.{size_of_row};
+ghost use Rattle.blob_file.specs.declared.file_error.FileError.TheVariants.{OutOfMemory};
+ghost use Rattle.std.specs.HashMap.{get, get_by_text};
+ghost use Rattle.std.specs.Map.{update};
+ghost use Rattle.std.specs.Str.{IsUtf8, bytes_eq};
+ghost use Rattle.std.specs.Prelude.{IfErr, IfOk, List, OnErr, OnOk, Some, drop, length, nat_eq, take, ℕ, []};
+ghost use Rattle.std.specs.Prelude.{◌+◌, ◌-◌, ◌<◌, ◌^◌, ◌≡◌, ◌≤◌};
 
 use crate::file_error::FileError;
-use crate::rows::{Place, ROW, read_row};
+use crate::rows::{Place, Row, split_row};
+use std::alloc::Global;
 use std::collections::HashMap;
+use std::str;
 
-/// Where the blobs of a file stand, by their keys.
-pub type Index = HashMap<u128, Place>;
+/// Where blobs stand, by their keys.
+pub type Places = HashMap<u128, Place>;
 
-/// Takes `count` rows into the index, whose bodies begin at `first` and have `bodies` bytes.
-fn take_all(
+/// The keys that names stand for.
+pub type Names = HashMap<String, u128>;
+
+/// What the batches of a file say.
+#[derive(Drop)]
+pub struct Index {
+    pub places: Places,
+    pub names: Names,
+}
+
+impl Index {
+    /// Makes the index of a file without a batch.
+    pub fn new(alloc: Global) -> Index
+        ensures { Knows result [] }
+    {
+        Index {
+            places: HashMap::new(alloc),
+            names: HashMap::new(alloc),
+        }
+    }
+}
+
+/// Lets a name stand for a key, or for none if the key is 0.
+///
+/// # Errors
+///
+/// `OutOfMemory`. Nothing changes.
+pub fn set_name(alloc: Global, names: &mut Names, name: &str, key: u128) -> Result<(), FileError>
+    ensures named { OnOk result ((q : List ℕ) → get_by_text names.new q
+        ≡ update bytes_eq (get_by_text names.old) name.now (key_given key) q) }
+    ensures kind { IfErr result (λ e. e ≡ OutOfMemory) }
+    ensures kept { OnErr result ((q : List ℕ) → get_by_text names.new q ≡ get_by_text names.old q) }
+{
+    if key == 0 {
+        names.remove(name);
+    } else {
+        names.insert(String::from_str(alloc, name)?, key)?;
+    }
+    Ok(())
+}
+
+/// Takes what the row of a name says.
+fn take_name(alloc: Global, names: &mut Names, name: &[u8], key: u128) -> Result<(), FileError>
+    ensures named { OnOk result ((q : List ℕ) → get_by_text names.new q
+        ≡ update bytes_eq (get_by_text names.old) name.now (key_given key) q) }
+    ensures text { OnOk result (IsUtf8 name.now) }
+    ensures refused { IfErr result (FailsFor (¬ IsUtf8 name.now) ⊥) }
+{
+    match str::from_utf8(name) {
+        Ok(text) => set_name(alloc, names, text, key),
+        Err(_) => Err(FileError::Damaged),
+    }
+}
+
+/// Takes what the row of a blob says, whose body begins at `at`, where `left` bytes are left.
+/// Returns how many are left behind it.
+fn take_blob(places: &mut Places, row: Row, at: usize, left: u64) -> Result<u64, FileError>
+    requires fits { at + left < 2 ^ 64 }
+    ensures placed { OnOk result ((q : ℕ) → get nat_eq places.new q
+        ≡ update nat_eq (get nat_eq places.old) row.key (Some (place_at at row)) q) }
+    ensures left { IfOk result (λ rest. rest + size_of_row row ≡ left) }
+    ensures refused { IfErr result (FailsFor (left < size_of_row row) ⊥) }
+{
+    let size = row.size();
+    if size > left {
+        return Err(FileError::Damaged);
+    }
+    let place = Place {
+        at,
+        children: row.children,
+        bytes: row.bytes,
+    };
+    places.insert(row.key, place)?;
+    Ok(left - size)
+}
+
+/// Takes what the first of some rows says. If it is a blob's, its body begins at `at`, where `left`
+/// bytes are left. Returns how many are left behind it, and the rows behind the first.
+fn take_row<'a>(
+    alloc: Global,
+    index: &mut Index,
+    rows: &'a [u8],
+    at: usize,
+    left: u64,
+) -> Result<(u64, &'a [u8]), FileError>
+    requires some { 0 < length rows.now }
+    requires fits { at + left < 2 ^ 64 }
+    ensures learns { OnOk result (Learns at (take (row_len rows.now) rows.now) index.old index.new) }
+    ensures whole { IfOk result (λ it. AreWhole (left - it.0) (take (row_len rows.now) rows.now)) }
+    ensures left { IfOk result (λ it. it.0 ≤ left) }
+    ensures behind { IfOk result (λ it. it.1.now ≡ drop (row_len rows.now) rows.now) }
+    ensures fewer { IfOk result (λ it. length it.1.now < length rows.now) }
+    ensures refused { IfErr result (FailsFor (¬ AreWhole left rows.now) ⊥) }
+{
+    let Some((row, name, behind)) = split_row(rows) else {
+        return Err(FileError::Damaged);
+    };
+    if row.is_name() {
+        take_name(alloc, &mut index.names, name, row.key)?;
+        return Ok((left, behind));
+    }
+    let rest = take_blob(&mut index.places, row, at, left)?;
+    Ok((rest, behind))
+}
+
+/// Takes what the rows of a batch say, whose bodies begin at `first` and have `bodies` bytes.
+///
+/// # Errors
+///
+/// `OutOfMemory`, or `Damaged` if the rows aren't whole, a name isn't UTF-8, or the bodies aren't as
+/// long as the rows say. Some of the rows may have been taken.
+pub fn take_rows(
+    alloc: Global,
     index: &mut Index,
     rows: &[u8],
-    count: usize,
     first: usize,
     bodies: u64,
 ) -> Result<(), FileError>
-    requires whole { length rows.now ≡ 24 * count }
     requires fits { first + bodies < 2 ^ 64 }
-    ensures placed { OnOk result ((q : ℕ) → get nat_eq index.new q ≡ placed first (rows_in count rows.now) (get nat_eq index.old) q) }
-    ensures sized { OnOk result (total (rows_in count rows.now) ≡ bodies) }
-    ensures damaged { result ≡ Err Damaged → total (rows_in count rows.now) ≢ bodies }
-    ensures kind { IfErr result (λ e. (e ≡ Damaged) ⊎ (e ≡ OutOfMemory)) }
+    ensures learns { OnOk result (Learns first rows.now index.old index.new) }
+    ensures formed { OnOk result (AreWhole bodies rows.now) }
+    ensures refused { IfErr result (FailsFor (¬ AreWhole bodies rows.now) ⊥) }
 {
     let mut rest = rows;
     let mut left = bodies;
-    for i in 0..count {
-        let (front, behind) = rest.split_at(ROW);
-        let row = read_row(front);
-        let size = row.size();
-        if size > left {
-            return Err(FileError::Damaged);
-        }
-        let place = Place {
-            at: first + (bodies - left) as usize,
-            children: row.children,
-            bytes: row.bytes,
-        };
-        index.insert(row.key, place)?;
-        left -= size;
-        rest = behind;
+    while !rest.is_empty() {
+        let at = first + (bodies - left) as usize;
+        let (behind, more) = take_row(alloc, index, rest, at, left)?;
+        left = behind;
+        rest = more;
     }
     if left != 0 {
         return Err(FileError::Damaged);
     }
     Ok(())
-}
-
-/// Takes the rows of a batch into the index, whose bodies begin at `first` and have `bodies` bytes.
-///
-/// # Errors
-///
-/// `OutOfMemory`, or `Damaged` if the rows aren't whole, or the bodies not as long as the rows say.
-/// Some of the rows may have been taken.
-pub fn take_rows(index: &mut Index, rows: &[u8], first: usize, bodies: u64) -> Result<(), FileError>
-    requires fits { first + bodies < 2 ^ 64 }
-    ensures placed { OnOk result ((q : ℕ) → get nat_eq index.new q
-        ≡ placed first (rows_in (length rows.now / 24) rows.now) (get nat_eq index.old) q) }
-    ensures formed { OnOk result (AreWhole bodies rows.now) }
-    ensures damaged { result ≡ Err Damaged → ¬ AreWhole bodies rows.now }
-    ensures kind { IfErr result (λ e. (e ≡ Damaged) ⊎ (e ≡ OutOfMemory)) }
-{
-    let count = rows.len() / ROW;
-    if count * ROW != rows.len() {
-        return Err(FileError::Damaged);
-    }
-    take_all(index, rows, count, first, bodies)
 }

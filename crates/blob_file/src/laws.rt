@@ -1,55 +1,59 @@
 //! What holds across a crash, as contracts of functions that go through one.
 
 ghost use Rattle.blob_file.specs.declared.file_error.FileError.TheVariants.{Damaged, NotBlobs};
-ghost use Rattle.blob_file.specs.{Appending.{IsOpen}, Format.{recovered}, Log.{IsOldOrNew, new_batch}, Rows.{AreWhole}};
+ghost use Rattle.blob_file.specs.File.{IsSettled, NamesStand, Same, content, flushed};
 ghost use Rattle.sqlite_wal.specs.Reads.{IsClean};
-ghost use Rattle.std.specs.Prelude.{IfErr, IfOk, IsTrue, length, [], ◌++◌, ◌∷◌, ◌≡◌, ◌≢◌};
+ghost use Rattle.std.specs.Prelude.{IfErr, IfOk, IsTrue, ◌≢◌, ◌⊎◌};
 
+use crate::file::BlobFile;
 use crate::file_error::FileError;
-use crate::index::Index;
-use crate::log::Log;
 use sqlite_disk::Crash;
 use std::alloc::Global;
 
-/// Lets the machine crash between two calls, and opens the file anew: it stands for the same
-/// batches.
+/// Lets the machine crash between two calls, and opens the file anew: it has the blobs and the names
+/// of the last flush.
 pub fn crash_and_open<D: Crash>(
     alloc: Global,
-    log: Log<D>,
-) -> Result<(Log<D>, Index), (FileError, D)>
-    requires open { IsOpen D.Disk log }
-    requires whole { IsTrue log.is_whole }
-    ensures found { IfOk result (λ again. IsClean D.Disk again.0.disk → recovered (D.seen again.0.disk) ≡ recovered (D.seen log.disk)) }
+    file: BlobFile<D>,
+) -> Result<BlobFile<D>, (FileError, D)>
+    requires settled { IsSettled D.Disk file }
+    requires whole { IsTrue file.log.is_whole }
+    ensures found { IfOk result (λ again. IsClean D.Disk again.log.disk
+        → Same (flushed D.Disk file) (content D.Disk again)) }
     ensures not_refused { IfErr result (λ e. IsClean D.Disk e.1 → (e.0 ≢ NotBlobs) × (e.0 ≢ Damaged)) }
 {
-    let Log { mut disk, .. } = log;
+    let BlobFile { log, .. } = file;
+    let mut disk = log.disk;
     disk.crash();
-    Log::open(alloc, disk)
+    BlobFile::open(alloc, disk)
 }
 
-/// Adds a batch over a disk that may stop at any call, lets the machine crash, and opens the file
-/// anew. Returns whether the batch was acknowledged, and the open.
+/// Flushes a file over a disk that may stop at any call, lets the machine crash, and opens the file
+/// anew. Returns whether the flush was acknowledged, and the open.
 ///
-/// The open finds the batch whole or not at all, and finds it if it was acknowledged. It never
-/// takes what the crash left for a file of something else, or for a damaged one.
-pub fn append_crash_and_open<D: Crash>(
+/// The open finds the blobs and the names of the last flush, or those of this one, all of them, and
+/// those of this one if it was acknowledged. It never takes what the crash left for a file of
+/// something else, or for a damaged one.
+pub fn flush_crash_and_open<D: Crash>(
     alloc: Global,
-    log: Log<D>,
-    bodies: &[u8],
-    rows: &[u8],
-) -> (bool, Result<(Log<D>, Index), (FileError, D)>)
-    requires open { IsOpen D.Disk log }
-    requires formed { AreWhole (length bodies.now) rows.now }
-    requires whole { IsTrue log.is_whole }
-    ensures acknowledged { IsTrue result.0 → IfOk result.1 (λ again. IsClean D.Disk again.0.disk
-        → recovered (D.seen again.0.disk) ≡ recovered (D.seen log.disk) ++ new_batch bodies.now rows.now ∷ []) }
-    ensures all_or_none { IfOk result.1 (λ again. IsClean D.Disk again.0.disk
-        → IsOldOrNew (recovered (D.seen log.disk)) (new_batch bodies.now rows.now) (D.seen again.0.disk)) }
+    file: BlobFile<D>,
+) -> (bool, Result<BlobFile<D>, (FileError, D)>)
+    requires settled { IsSettled D.Disk file }
+    requires whole { IsTrue file.log.is_whole }
+    ensures acknowledged { IsTrue result.0 → IfOk result.1 (λ again. IsClean D.Disk again.log.disk
+        → Same (content D.Disk file) (content D.Disk again)) }
+    ensures all_or_none { IfOk result.1 (λ again. IsClean D.Disk again.log.disk
+        → Same (flushed D.Disk file) (content D.Disk again) ⊎ Same (content D.Disk file) (content D.Disk again)) }
     ensures not_refused { IfErr result.1 (λ e. IsClean D.Disk e.1 → (e.0 ≢ NotBlobs) × (e.0 ≢ Damaged)) }
+
+    // No name is found without its blob.
+    ensures stand { NamesStand (flushed D.Disk file) → NamesStand (content D.Disk file)
+        → IfOk result.1 (λ again. IsClean D.Disk again.log.disk → NamesStand (content D.Disk again)) }
 {
-    let mut log = log;
-    let acknowledged = log.append(alloc, bodies, rows).is_ok();
-    let Log { mut disk, .. } = log;
+    let mut file = file;
+    let acknowledged = file.flush(alloc).is_ok();
+    let BlobFile { log, .. } = file;
+    let mut disk = log.disk;
     disk.crash();
-    (acknowledged, Log::open(alloc, disk))
+    (acknowledged, BlobFile::open(alloc, disk))
 }

@@ -8,7 +8,9 @@ pub mod head;
 pub mod holding;
 pub mod index;
 pub mod laws;
+pub mod listing;
 pub mod log;
+pub mod naming;
 pub mod opening;
 pub mod repair;
 pub mod rows;
@@ -18,6 +20,7 @@ pub mod staging;
 
 pub use file::{BlobFile, FoundBlob};
 pub use file_error::FileError;
+pub use listing::{Counts, ListedBlob};
 pub use log::Log;
 
 #[cfg(test)]

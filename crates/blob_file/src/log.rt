@@ -1,9 +1,9 @@
 //! A file of batches, open for its one writer.
 
-ghost use Rattle.blob_file.specs.{Appending.{AppendFails, IsOpen}, Format.{recovered}, Log.{IsLeft, new_batch}, Opening.{KeepsBatches, KeepsBytesUnlessFailed, Opens, Refuses}, Rows.{AreWhole}};
-ghost use Rattle.std.specs.HashMap.{get};
+ghost use Rattle.blob_file.specs.{Appending.{AppendFails, IsOpen}, Format.{recovered}, Log.{IsLeft, new_batch}};
+ghost use Rattle.blob_file.specs.{Opening.{KeepsBatches, KeepsBytesUnlessFailed, Opens, Refuses}, Rows.{AreWhole}};
 ghost use Rattle.sqlite_wal.specs.Reads.{IsClean};
-ghost use Rattle.std.specs.Prelude.{IfErr, IfOk, IsTrue, List, OnErr, OnOk, length, nat_eq, ℕ, [], ◌++◌, ◌+◌, ◌∷◌, ◌≡◌};
+ghost use Rattle.std.specs.Prelude.{IfErr, IfOk, IsTrue, List, OnErr, OnOk, length, ℕ, [], ◌++◌, ◌+◌, ◌∷◌, ◌≡◌};
 
 use crate::file_error::FileError;
 use crate::index::Index;
@@ -24,7 +24,7 @@ pub struct Log<D: Disk> {
 }
 
 impl<D: Disk> Log<D> {
-    /// Opens a file, or makes one of a file that was never made, and tells where its blobs stand.
+    /// Opens a file, or makes one of a file that was never made, and returns what its batches say.
     /// What it finds is on the disk. A file that rested with its gate has no byte written.
     ///
     /// # Errors
@@ -33,7 +33,7 @@ impl<D: Disk> Log<D> {
     /// `Failed` leaves a file that stands for the same batches.
     pub fn open(alloc: Global, disk: D) -> Result<(Log<D>, Index), (FileError, D)>
         requires usable { IsTrue (D.is_usable disk) }
-        ensures opens { IfOk result (λ it. Opens D.Disk disk it.0.gate (get nat_eq it.1) it.0.disk) }
+        ensures opens { IfOk result (λ it. Opens D.Disk disk it.0.gate it.1 it.0.disk) }
         ensures open { IfOk result (λ it. IsOpen D.Disk it.0 × IsTrue it.0.is_whole) }
         ensures moment { IfOk result (λ it. KeepsBatches D.Disk disk it.0.disk) }
         ensures moment_err { IfErr result (λ e. KeepsBatches D.Disk disk e.1) }

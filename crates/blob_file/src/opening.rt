@@ -1,10 +1,10 @@
 //! The open of a file: it is found or made, its batches are walked over, its end is repaired.
 
 ghost use Rattle.blob_file.specs.{Format.{is_made}, Opening.{KeepsBatches, KeepsBytesUnlessFailed, Opens, Refuses}};
+ghost use Rattle.blob_file.specs.Rows.{Knows};
 ghost use Rattle.sqlite_disk.specs.Disk.{Only};
 ghost use Rattle.sqlite_wal.specs.Reads.{IsClean};
-ghost use Rattle.std.specs.HashMap.{get};
-ghost use Rattle.std.specs.Prelude.{IfErr, IfOk, IsTrue, None, false, length, nat_eq, ℕ, ◌≡◌, ◌≤◌};
+ghost use Rattle.std.specs.Prelude.{IfErr, IfOk, IsTrue, false, length, [], ◌≡◌, ◌≤◌};
 
 use crate::file_error::FileError;
 use crate::front::{create, has_header, was_never_made};
@@ -25,11 +25,12 @@ fn open_made<D: Disk>(
     requires len { IsClean D.Disk disk.old → len ≡ length (D.seen disk.old) }
     requires made { IsClean D.Disk disk.old → IsTrue (is_made (D.seen disk.old)) }
     requires long { 16 ≤ len }
-    requires empty { (key : ℕ) → get nat_eq index.old key ≡ None }
+    requires empty { Knows index.old [] }
     requires synced { Only (D.seen disk.old) (D.may_leave disk.old) }
-    ensures opens { IfOk result (λ gate. Opens D.Disk disk.old gate (get nat_eq index.new) disk.new) }
+    ensures opens { IfOk result (λ gate. Opens D.Disk disk.old gate index.new disk.new) }
     ensures moment { KeepsBatches D.Disk disk.old disk.new }
-    ensures refused { IfErr result (Refuses (IsClean D.Disk disk.new) (D.seen disk.old) (D.faults disk.old) (D.faults disk.new)) }
+    ensures refused { IfErr result (Refuses (IsClean D.Disk disk.new) (D.seen disk.old) (D.faults disk.old)
+        (D.faults disk.new)) }
     ensures kept { IfErr result (KeepsBytesUnlessFailed D.Disk disk.old disk.new) }
 {
     let gate = find_end(alloc, disk, len, index)?;
@@ -42,11 +43,12 @@ fn open_unmade<D: Disk>(disk: &mut D, len: usize, index: &Index) -> Result<usize
     requires usable { IsTrue (D.is_usable disk.old) }
     requires len { IsClean D.Disk disk.old → len ≡ length (D.seen disk.old) }
     requires other { IsClean D.Disk disk.old → is_made (D.seen disk.old) ≡ false }
-    requires empty { (key : ℕ) → get nat_eq index.now key ≡ None }
+    requires empty { Knows index.now [] }
     requires synced { Only (D.seen disk.old) (D.may_leave disk.old) }
-    ensures opens { IfOk result (λ gate. Opens D.Disk disk.old gate (get nat_eq index.now) disk.new) }
+    ensures opens { IfOk result (λ gate. Opens D.Disk disk.old gate index.now disk.new) }
     ensures moment { KeepsBatches D.Disk disk.old disk.new }
-    ensures refused { IfErr result (Refuses (IsClean D.Disk disk.new) (D.seen disk.old) (D.faults disk.old) (D.faults disk.new)) }
+    ensures refused { IfErr result (Refuses (IsClean D.Disk disk.new) (D.seen disk.old) (D.faults disk.old)
+        (D.faults disk.new)) }
     ensures kept { IfErr result (KeepsBytesUnlessFailed D.Disk disk.old disk.new) }
 {
     let _index = index;
@@ -58,7 +60,7 @@ fn open_unmade<D: Disk>(disk: &mut D, len: usize, index: &Index) -> Result<usize
 }
 
 /// Opens a file, or makes one of a file that was never made, and returns where its shut gate is.
-/// The index, empty at first, has the places of the file's blobs afterwards.
+/// The index, empty at first, has what the file's batches say afterwards.
 ///
 /// What is found is on the disk: the file is synced before it is read. A file that rested with its
 /// gate has no byte written.
@@ -69,10 +71,11 @@ fn open_unmade<D: Disk>(disk: &mut D, len: usize, index: &Index) -> Result<usize
 /// that stands for the same batches.
 pub fn prepare<D: Disk>(alloc: Global, disk: &mut D, index: &mut Index) -> Result<usize, FileError>
     requires usable { IsTrue (D.is_usable disk.old) }
-    requires empty { (key : ℕ) → get nat_eq index.old key ≡ None }
-    ensures opens { IfOk result (λ gate. Opens D.Disk disk.old gate (get nat_eq index.new) disk.new) }
+    requires empty { Knows index.old [] }
+    ensures opens { IfOk result (λ gate. Opens D.Disk disk.old gate index.new disk.new) }
     ensures moment { KeepsBatches D.Disk disk.old disk.new }
-    ensures refused { IfErr result (Refuses (IsClean D.Disk disk.new) (D.seen disk.old) (D.faults disk.old) (D.faults disk.new)) }
+    ensures refused { IfErr result (Refuses (IsClean D.Disk disk.new) (D.seen disk.old) (D.faults disk.old)
+        (D.faults disk.new)) }
     ensures kept { IfErr result (KeepsBytesUnlessFailed D.Disk disk.old disk.new) }
 {
     disk.sync()?;

@@ -1,13 +1,11 @@
 //! The walk over the batches of a file, from its front up to the gate behind the last.
 
-ghost use Rattle.blob_file.specs.{Format.{AreSummed, IsSummed, is_made, open_head, recovered, rows_of}, Log.{EndsAt, IsSound}, Opening.{FailsAlone, Refuses}};
-ghost use Rattle.blob_file.specs.Rows.{AreFormed, nowhere, placed, places_in, rows_of_batch};
-ghost use Rattle.std.specs.HashMap.{get};
-ghost use Rattle.blob_file.specs.declared.file_error.FileError.TheVariants.{Damaged, Failed, NotBlobs, Shut, TooLong};
+ghost use Rattle.blob_file.specs.Format.{AreSummed, IsSummed, is_made, open_head, recovered, rows_of};
+ghost use Rattle.blob_file.specs.{Log.{EndsAt, IsSound}, Opening.{FailsFor, Refuses}, Rows.{AreFormed, Knows, Learns}};
 ghost use Rattle.sqlite_disk.specs.Disk.{MoreFaults};
 ghost use Rattle.sqlite_wal.specs.Format.{part};
 ghost use Rattle.sqlite_wal.specs.Reads.{IsClean, OnlyReads};
-ghost use Rattle.std.specs.Prelude.{Err, IfOk, IfErr, IsTrue, None, OnOk, Some, drop, length, nat_eq, ℕ, ◌+◌, ◌<◌, ◌^◌, ◌≡◌, ◌≢◌, ◌≤◌};
+ghost use Rattle.std.specs.Prelude.{IfOk, IfErr, IsTrue, OnOk, Some, drop, length, [], ◌+◌, ◌<◌, ◌^◌, ◌≡◌, ◌≤◌};
 
 use crate::file_error::FileError;
 use crate::head::{HEAD, Head, batch_at};
@@ -30,7 +28,7 @@ pub fn read_part<D: Disk>(
     requires usable { IsTrue (D.is_usable disk.old) }
     requires within { IsClean D.Disk disk.old → at + len ≤ length (D.seen disk.old) }
     ensures bytes { IfOk result (λ bytes. IsClean D.Disk disk.new → bytes.items ≡ part (D.seen disk.old) at len) }
-    ensures kind { IfErr result (FailsAlone (D.faults disk.old) (D.faults disk.new)) }
+    ensures refused { IfErr result (FailsFor ⊥ (MoreFaults (D.faults disk.old) (D.faults disk.new))) }
     ensures faults { OnOk result (D.faults disk.new ≡ D.faults disk.old) }
     ensures same { OnlyReads D.Disk disk.old disk.new }
 {
@@ -52,9 +50,8 @@ fn read_rows<D: Disk>(
     requires fits { at + 25 + head.bodies + head.rows < 2 ^ 64 }
     ensures rows { IfOk result (λ rows. IsClean D.Disk disk.new → rows.items ≡ rows_of (drop at (D.seen disk.old))) }
     ensures summed { OnOk result (IsClean D.Disk disk.new → IsSummed (drop at (D.seen disk.old))) }
-    ensures damaged { result ≡ Err Damaged → IsClean D.Disk disk.new → ¬ IsSummed (drop at (D.seen disk.old)) }
-    ensures kind { (result ≢ Err NotBlobs) × (result ≢ Err Shut) × (result ≢ Err TooLong) }
-    ensures failed { result ≡ Err Failed → MoreFaults (D.faults disk.old) (D.faults disk.new) }
+    ensures refused { IfErr result (FailsFor (IsClean D.Disk disk.new → ¬ IsSummed (drop at (D.seen disk.old)))
+        (MoreFaults (D.faults disk.old) (D.faults disk.new))) }
     ensures faults { OnOk result (D.faults disk.new ≡ D.faults disk.old) }
     ensures same { OnlyReads D.Disk disk.old disk.new }
 {
@@ -66,8 +63,8 @@ fn read_rows<D: Disk>(
     Ok(rows)
 }
 
-/// Takes the rows of the batch at `at`, whose head this is, into the index. Tests their sum, and
-/// that the bodies are as long as they say.
+/// Takes what the rows of the batch at `at` say, whose head this is, into the index. Tests their
+/// sum, and that the bodies are as long as they say.
 fn take_batch<D: Disk>(
     alloc: Global,
     disk: &mut D,
@@ -80,21 +77,20 @@ fn take_batch<D: Disk>(
     requires within { IsClean D.Disk disk.old → at + 25 + head.bodies + head.rows ≤ length (D.seen disk.old) }
     requires fits { at + 25 + head.bodies + head.rows < 2 ^ 64 }
     ensures sound { OnOk result (IsClean D.Disk disk.new → IsSound (drop at (D.seen disk.old))) }
-    ensures places { OnOk result (IsClean D.Disk disk.new → (key : ℕ) → get nat_eq index.new key
-        ≡ placed (at + 25) (rows_of_batch (drop at (D.seen disk.old))) (get nat_eq index.old) key) }
-    ensures damaged { result ≡ Err Damaged → IsClean D.Disk disk.new → ¬ IsSound (drop at (D.seen disk.old)) }
-    ensures kind { (result ≢ Err NotBlobs) × (result ≢ Err Shut) × (result ≢ Err TooLong) }
-    ensures failed { result ≡ Err Failed → MoreFaults (D.faults disk.old) (D.faults disk.new) }
+    ensures learns { OnOk result (IsClean D.Disk disk.new
+        → Learns (at + 25) (rows_of (drop at (D.seen disk.old))) index.old index.new) }
+    ensures refused { IfErr result (FailsFor (IsClean D.Disk disk.new → ¬ IsSound (drop at (D.seen disk.old)))
+        (MoreFaults (D.faults disk.old) (D.faults disk.new))) }
     ensures faults { OnOk result (D.faults disk.new ≡ D.faults disk.old) }
     ensures same { OnlyReads D.Disk disk.old disk.new }
 {
     let rows = read_rows(alloc, disk, at, head)?;
-    take_rows(index, &rows, at + HEAD, head.bodies)
+    take_rows(alloc, index, &rows, at + HEAD, head.bodies)
 }
 
 /// Finds the gate behind the last batch of a file of blobs of `len` bytes: the first place where
-/// no batch stands that is open and whole. Tests each batch on the way, and takes its rows into the
-/// index, which is empty at first.
+/// no batch stands that is open and whole. Tests each batch on the way, and takes what its rows say
+/// into the index, which is empty at first.
 pub fn find_end<D: Disk>(
     alloc: Global,
     disk: &mut D,
@@ -105,13 +101,14 @@ pub fn find_end<D: Disk>(
     requires len { IsClean D.Disk disk.old → len ≡ length (D.seen disk.old) }
     requires made { IsClean D.Disk disk.old → IsTrue (is_made (D.seen disk.old)) }
     requires long { 16 ≤ len }
-    requires empty { (key : ℕ) → get nat_eq index.old key ≡ None }
+    requires empty { Knows index.old [] }
     ensures ends { IfOk result (λ gate. IsClean D.Disk disk.new → EndsAt gate (D.seen disk.old)) }
     ensures within { IfOk result (λ gate. gate ≤ len) }
     ensures summed { OnOk result (IsClean D.Disk disk.new → AreSummed (recovered (D.seen disk.old))) }
     ensures formed { OnOk result (IsClean D.Disk disk.new → AreFormed (recovered (D.seen disk.old))) }
-    ensures places { OnOk result (IsClean D.Disk disk.new → (key : ℕ) → get nat_eq index.new key ≡ places_in 16 (recovered (D.seen disk.old)) nowhere key) }
-    ensures refused { IfErr result (Refuses (IsClean D.Disk disk.new) (D.seen disk.old) (D.faults disk.old) (D.faults disk.new)) }
+    ensures knows { OnOk result (IsClean D.Disk disk.new → Knows index.new (recovered (D.seen disk.old))) }
+    ensures refused { IfErr result (Refuses (IsClean D.Disk disk.new) (D.seen disk.old) (D.faults disk.old)
+        (D.faults disk.new)) }
     ensures faults { OnOk result (D.faults disk.new ≡ D.faults disk.old) }
     ensures same { OnlyReads D.Disk disk.old disk.new }
 {

@@ -2,7 +2,8 @@ use Rattle.std.proofs.Common.{◌≡◌, ◌⊎◌, inl, inr, refl, sym, ◌∙�
 use Rattle.std.proofs.lemmas.Bool.{both_ways, or_right}
 use Rattle.blob_file.specs.Format.{is_unmade, recovered}
 use Rattle.blob_file.specs.Log.{RestsAt}
-use Rattle.blob_file.proofs.Repairs.{created, new_rests, none_formed, none_placed, none_summed, ready_synced, recovered_new, recovered_small, rests_made, unmade_small}
+use Rattle.blob_file.specs.Rows.{Knows}
+use Rattle.blob_file.proofs.Repairs.{created, new_rests, none_formed, none_summed, ready_synced, recovered_new, recovered_small, rests_made, unmade_small}
 use Rattle.blob_file.proofs.opening.open_unmade.Goals as goal
 
 pub returns-in_err-create-clause-moment : goal.returns-in_err-create-clause-moment
@@ -27,9 +28,9 @@ returns-clause-opens g c = record {
   formed = λ clean.
       let unmade = sym (c.in_ok-was_never_made.ensures.found (c.create.ensures.clean clean)) ∙ c.if-not-branch.false in
       none_formed _ (unmade_small _ unmade);
-  places = λ clean key.
+  knows = λ clean.
       let unmade = sym (c.in_ok-was_never_made.ensures.found (c.create.ensures.clean clean)) ∙ c.if-not-branch.false in
-      c.requires.empty key ∙ sym (none_placed _ key (unmade_small _ unmade));
+      subst (Knows c.args.index.now) (sym (recovered_small _ (unmade_small _ unmade))) c.requires.empty;
   kind = λ clean. or_right _ _ (sym (c.in_ok-was_never_made.ensures.found (c.create.ensures.clean clean)) ∙ c.if-not-branch.false);
   untouched = λ clean place rests. absurd (both_ways _ (c.requires.other (c.was_never_made.ensures.same.clean (c.create.ensures.clean clean))) (rests_made place _ rests));
 }

@@ -1,13 +1,10 @@
-use Rattle.std.proofs.Common.{◌≡◌, refl, sym, ◌∙◌, ap, subst, ℕ, ◌+◌, ◌≤◌, List, drop, arith, nat_eq}
-use Rattle.std.specs.HashMap.{get}
-use Rattle.std.specs.Prelude.{Err}
-use Rattle.std.proofs.lemmas.Result.{err_from_is_err_and}
+use Rattle.std.proofs.Common.{◌≡◌, refl, sym, ◌∙◌, subst, ℕ, ◌+◌, ◌≤◌, List, drop, arith}
 use Rattle.sqlite_disk.specs.Disk.{MoreFaults}
+use Rattle.blob_file.specs.Format.{rows_of}
 use Rattle.blob_file.specs.Log.{IsSound}
-use Rattle.blob_file.specs.Rows.{placed, rows_of_batch}
-use Rattle.blob_file.specs.declared.file_error.FileError.TheVariants.{Failed}
-use Rattle.blob_file.proofs.Scans.{open_is, open_not, size_there, stands_start, stands_next, ends_here, all_formed, all_places, all_summed, not_sound}
-use Rattle.blob_file.proofs.Walks.{found_here, reads_not, reads_then, refuses_rows}
+use Rattle.blob_file.specs.Rows.{Learns}
+use Rattle.blob_file.proofs.Scans.{open_is, open_not, size_there, stands_start, stands_next, ends_here, all_formed, all_known, all_summed, not_sound}
+use Rattle.blob_file.proofs.Walks.{found_here, reads_not, reads_then, refuses_batch}
 use Rattle.blob_file.proofs.scanning.find_end.Goals as goal
 
 pub loop-head-init : goal.loop-head-init
@@ -20,15 +17,14 @@ loop-head-init g c = record {
 
 pub returns-in_err-take_batch-clause-refused : goal.returns-in_err-take_batch-clause-refused
 returns-in_err-take_batch-clause-refused g c =
-    let p = err_from_is_err_and c.from_residual-in_err-take_batch.result c.from_residual-in_err-take_batch.ensures.1 in
     let inv = c.loop-head.invariant in
-    let failed : c.take_batch.result ≡ Err Failed → MoreFaults (g.D.Disk.faults c.args.disk.now) (g.D.Disk.faults c.take_batch.new.disk) = λ is. subst (λ (n : ℕ). MoreFaults n (g.D.Disk.faults c.take_batch.new.disk)) (c.in_ok-head.ensures.faults ∙ inv.faults) (c.take_batch.ensures.failed is) in
-    rw (p.1, p.2) (refuses_rows _ _ _ _ _ _ c.in_err-take_batch.was
-    (λ is clean all.
+    refuses_batch _ _ _ _ c.from_residual-in_err-take_batch.result _ c.from_residual-in_err-take_batch.ensures.1 c.in_err-take_batch.ensures.refused
+    (λ damaged clean all.
     let before = c.take_batch.ensures.same.clean clean in
     let found = found_here _ _ _ _ _ inv.same.seen (c.in_ok-head.ensures.found before) c.in-Some.is in
-    not_sound _ _ _ (inv.stands (c.batch_at.ensures.same.clean before)) (open_is _ _ found).0 (λ sound. c.take_batch.ensures.damaged is clean (subst (λ (f : List ℕ). IsSound (drop c.loop-head.at f)) (sym (c.batch_at.ensures.same.seen ∙ inv.same.seen)) sound)) all.0 all.1)
-    c.take_batch.ensures.kind failed)
+    not_sound _ _ _ (inv.stands (c.batch_at.ensures.same.clean before)) (open_is _ _ found).0
+    (λ sound. damaged clean (subst (λ (f : List ℕ). IsSound (drop c.loop-head.at f)) (sym (c.batch_at.ensures.same.seen ∙ inv.same.seen)) sound)) all.0 all.1)
+    (λ failed. subst (λ (n : ℕ). MoreFaults n (g.D.Disk.faults c.take_batch.new.disk)) (c.in_ok-head.ensures.faults ∙ inv.faults) failed)
 
 pub loop-head-preserved : goal.loop-head-preserved
 loop-head-preserved g c =
@@ -42,8 +38,10 @@ loop-head-preserved g c =
       stands = λ clean.
           let before = c.take_batch.ensures.same.clean clean in
           let found = found_here _ _ _ _ _ inv.same.seen (c.in_ok-head.ensures.found before) c.in-Some.is in
-          stands_next _ _ _ _ _ (inv.stands (c.batch_at.ensures.same.clean before)) (open_is _ _ found).0 (subst (λ (f : List ℕ). IsSound (drop c.loop-head.at f)) seen (c.in_ok-take_batch.ensures.sound clean)) (size_there _ _ found)
-          (λ key. c.in_ok-take_batch.ensures.places clean key ∙ ap (λ (f : List ℕ). placed (c.loop-head.at + 25) (rows_of_batch (drop c.loop-head.at f)) (get nat_eq c.loop-head.index) key) seen);
+          stands_next _ _ _ _ _ (inv.stands (c.batch_at.ensures.same.clean before)) (open_is _ _ found).0
+          (subst (λ (f : List ℕ). IsSound (drop c.loop-head.at f)) seen (c.in_ok-take_batch.ensures.sound clean)) (size_there _ _ found)
+          (subst (λ (f : List ℕ). Learns (c.loop-head.at + 25) (rows_of (drop c.loop-head.at f)) c.loop-head.index c.take_batch.new.index) seen
+          (c.in_ok-take_batch.ensures.learns clean));
     }
 
 pub returns-clause-ends : goal.returns-clause-ends
@@ -61,7 +59,8 @@ returns-clause-formed g c clean =
     let inv = c.loop-head.invariant in
     all_formed _ _ _ (inv.stands (c.batch_at.ensures.same.clean clean)) (open_not _ (found_here _ _ _ _ _ inv.same.seen (c.in_ok-head.ensures.found clean) c.in_default.is))
 
-pub returns-clause-places : goal.returns-clause-places
-returns-clause-places g c clean =
+pub returns-clause-knows : goal.returns-clause-knows
+returns-clause-knows g c clean =
     let inv = c.loop-head.invariant in
-    all_places _ _ _ (inv.stands (c.batch_at.ensures.same.clean clean)) (open_not _ (found_here _ _ _ _ _ inv.same.seen (c.in_ok-head.ensures.found clean) c.in_default.is))
+    all_known _ _ _ (inv.stands (c.batch_at.ensures.same.clean clean))
+    (open_not _ (found_here _ _ _ _ _ inv.same.seen (c.in_ok-head.ensures.found clean) c.in_default.is))

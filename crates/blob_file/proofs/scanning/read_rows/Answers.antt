@@ -3,8 +3,8 @@ use Rattle.sqlite_disk.specs.Digest.{digest}
 use Rattle.blob_file.proofs.Scans.{rows_at, sum_at}
 use Rattle.blob_file.proofs.scanning.read_rows.Goals as goal
 
-pub returns-then-digest_of-head-clause-damaged : goal.returns-then-digest_of-head-clause-damaged
-returns-then-digest_of-head-clause-damaged g c _ clean summed =
+pub returns-then-digest_of-head-clause-refused : goal.returns-then-digest_of-head-clause-refused
+returns-then-digest_of-head-clause-refused g c clean summed =
     let head = c.requires.head (c.read_part.ensures.same.clean clean) in
     let rows = c.deref.ensures.value ∙ c.in_ok-rows.ensures.bytes clean ∙ rows_at _ _ _ head in
     c.if-digest_of-head.true (c.digest_of.ensures.value ∙ ap (digest 0) rows ∙ sym summed ∙ sym (sum_at _ _ head))

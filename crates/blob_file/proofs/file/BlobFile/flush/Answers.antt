@@ -1,111 +1,79 @@
-use Rattle.std.proofs.Common.{◌≡◌, ◌⊎◌, inl, inr, refl, sym, ◌∙◌, ap, ap₂, subst, ℕ, ◌+◌, ◌/◌, ◌<◌, ◌≤◌, ◌^◌, List, [], ◌∷◌, ◌++◌, length, arith, nat_eq}
+use Rattle.std.proofs.Common.{◌≡◌, ◌⊎◌, inl, inr, refl, sym, ◌∙◌, ap, ap₂, subst, ℕ, ◌+◌, ◌<◌, ◌≤◌, ◌^◌, List, [], ◌∷◌, ◌++◌, length, arith, nat_eq}
 use Rattle.std.specs.Prelude.{option_map}
 use Rattle.std.specs.HashMap.{get}
 use Rattle.std.proofs.lemmas.Bool.Decides.{nat_tests}
 use Rattle.std.proofs.lemmas.List.{nil_from_length}
 use Rattle.blob_file.specs.File.{body_bytes}
 use Rattle.blob_file.specs.Format.{recovered}
-use Rattle.blob_file.specs.Log.{new_batch}
-use Rattle.blob_file.specs.Rows.{AreWhole, nowhere, places_in, stored_in}
-use Rattle.blob_file.proofs.BatchFiles.{kept}
-use Rattle.blob_file.proofs.Placing.{all_here}
-use Rattle.blob_file.proofs.Settling.{body_of, flushed_places, flushed_stored, idle_places, idle_rows, idle_stored, kept_stored}
+use Rattle.blob_file.specs.Log.{IsLeft, new_batch}
+use Rattle.blob_file.specs.Rows.{AreWhole, named_in, nowhere, places_in}
+use Rattle.blob_file.proofs.Flushing.{held_content, here, idle_content, left_content, left_opens, rest_kept, rest_opens, same_batches}
+use Rattle.blob_file.proofs.Settling.{body_of, flushed_names, flushed_places, idle_names, idle_places, idle_rows, idle_stored, kept_stored}
 use Rattle.blob_file.proofs.file.BlobFile.flush.Goals as goal
 
 pub returns-then-is_empty-clause-flushed : goal.returns-then-is_empty-clause-flushed
-returns-then-is_empty-clause-flushed g c whole clean key =
-    let s = c.requires.settled in
-    let rests = (s.open_log.ready whole clean).rests in
+returns-then-is_empty-clause-flushed g c whole clean =
     let size : length c.args.self.now.rows.items ≡ 0 = grind (arith, nat_tests) in
-    let none = nil_from_length c.args.self.now.rows.items size in
-    sym (idle_stored _ _ _ _ _ rests.front rests.place rests.whole (s.open_log.formed whole clean) (λ q. s.places whole clean q ∙ idle_places _ _ _ q none) key)
+    idle_content g.D.Disk _ c.requires.settled whole clean (nil_from_length c.args.self.now.rows.items size)
 
 pub returns-then-is_empty-clause-any_moment : goal.returns-then-is_empty-clause-any_moment
-returns-then-is_empty-clause-any_moment g c whole clean left may =
-    let ready = c.requires.settled.open_log.ready whole clean in
-    inl (λ key. ap (λ (l : List (List ℕ)). stored_in l key) (kept _ _ _ ready.rests (ready.crash left may)))
+returns-then-is_empty-clause-any_moment g c whole clean left may = inl (same_batches _ _ (rest_kept g.D.Disk _ c.requires.settled whole clean left may))
 
 pub returns-then-is_empty-clause-durable : goal.returns-then-is_empty-clause-durable
-returns-then-is_empty-clause-durable g c whole clean left may key =
-    let s = c.requires.settled in
-    let ready = s.open_log.ready whole clean in
-    let rests = ready.rests in
-    let size : length c.args.self.now.rows.items ≡ 0 = grind (arith, nat_tests) in
-    let none = nil_from_length c.args.self.now.rows.items size in
-    ap (λ (l : List (List ℕ)). stored_in l key) (kept _ _ _ rests (ready.crash left may))
-    ∙ sym (idle_stored _ _ _ _ _ rests.front rests.place rests.whole (s.open_log.formed whole clean) (λ q. s.places whole clean q ∙ idle_places _ _ _ q none) key)
+returns-then-is_empty-clause-durable g c whole clean left may =
+    let all = returns-then-is_empty-clause-flushed g c whole clean in
+    let same = same_batches _ _ (rest_kept g.D.Disk _ c.requires.settled whole clean left may) in
+    record { blobs = λ key. same.blobs key ∙ all.blobs key; names = λ name. same.names name ∙ all.names name }
+
+pub returns-then-is_empty-clause-opens_again : goal.returns-then-is_empty-clause-opens_again
+returns-then-is_empty-clause-opens_again g c whole clean left may = rest_opens g.D.Disk _ c.requires.settled whole clean left may
 
 pub returns-in_err-append-clause-same : goal.returns-in_err-append-clause-same
-returns-in_err-append-clause-same g c whole clean key =
+returns-in_err-append-clause-same g c whole clean =
     let s = c.requires.settled in
     let it = c.args.self.now in
     let first = c.append.ensures.was_whole whole in
     let was = c.append.ensures.clean clean in
     let rests = (s.open_log.ready first was).rests in
     let below = (c.append.ensures.any_moment first clean _ (g.met.D.Disk.seen_may_stay c.append.new.self.disk)).below in
-    ap (λ (k : ℕ). option_map (body_of (body_bytes (g.D.Disk.seen c.append.new.self.disk) it.bodies.items (k + 25))) (get nat_eq it.index key)) c.in_err-append.ensures.gate_stays
-    ∙ kept_stored _ _ _ it.log.gate _ (λ q p found. all_here _ _ _ _ rests.place rests.whole (s.open_log.formed first was) s.held q p (sym (s.places first was q) ∙ found)) (omega (arith, rests.within)) below key
+    record {
+      blobs = λ key.
+          ap (λ (k : ℕ). option_map (body_of (body_bytes (g.D.Disk.seen c.append.new.self.disk) it.bodies.items (k + 25))) (get nat_eq it.index.places key)) c.in_err-append.ensures.gate_stays
+          ∙ kept_stored _ _ _ it.log.gate _ (here g.D.Disk it s first was) (omega (arith, rests.within)) below key;
+      names = λ name. refl;
+    }
 
 pub returns-in_err-append-clause-any_moment : goal.returns-in_err-append-clause-any_moment
 returns-in_err-append-clause-any_moment g c whole clean left may =
-    let s = c.requires.settled in
     let it = c.args.self.now in
-    let was = c.append.ensures.clean clean in
-    let rests = (s.open_log.ready whole was).rests in
     let few : length it.bodies.items < 2 ^ 64 = omega (arith, c.deref.type_inv.0, ap (λ (l : List ℕ). length l) c.deref.ensures.value) in
     let short : length it.rows.items < 2 ^ 64 = omega (arith, c.deref-2.type_inv.0, ap (λ (l : List ℕ). length l) c.deref-2.ensures.value) in
-    elim (c.append.ensures.any_moment whole clean left may).stands [
-      | inl old ↦ inl (λ key. ap (λ (l : List (List ℕ)). stored_in l key) old)
-      | inr new ↦ inr (λ key.
-          ap (λ (l : List (List ℕ)). stored_in l key) (new.0 ∙ ap₂ (λ (b r : List ℕ). recovered (g.D.Disk.seen it.log.disk) ++ new_batch b r ∷ []) c.deref.ensures.value c.deref-2.ensures.value)
-          ∙ flushed_stored _ _ _ _ _ _ rests.front rests.place rests.whole (s.open_log.formed whole was) s.held few short (s.places whole was) key)
-    ]
+    left_content g.D.Disk it c.requires.settled whole (c.append.ensures.clean clean) few short left
+    (subst (λ (b : List ℕ). IsLeft it.log.gate (g.D.Disk.seen it.log.disk) b left) (ap₂ new_batch c.deref.ensures.value c.deref-2.ensures.value) (c.append.ensures.any_moment whole clean left may))
+
+pub returns-in_err-append-clause-opens_again : goal.returns-in_err-append-clause-opens_again
+returns-in_err-append-clause-opens_again g c whole clean left may =
+    left_opens g.D.Disk c.args.self.now c.requires.settled whole (c.append.ensures.clean clean) _ left (c.append.ensures.any_moment whole clean left may)
 
 pub returns-clause-any_moment : goal.returns-clause-any_moment
 returns-clause-any_moment g c whole clean left may =
-    let s = c.requires.settled in
     let it = c.args.self.now in
-    let was = c.append.ensures.clean clean in
-    let rests = (s.open_log.ready whole was).rests in
     let few : length it.bodies.items < 2 ^ 64 = omega (arith, c.deref.type_inv.0, ap (λ (l : List ℕ). length l) c.deref.ensures.value) in
     let short : length it.rows.items < 2 ^ 64 = omega (arith, c.deref-2.type_inv.0, ap (λ (l : List ℕ). length l) c.deref-2.ensures.value) in
-    elim (c.append.ensures.any_moment whole clean left may).stands [
-      | inl old ↦ inl (λ key. ap (λ (l : List (List ℕ)). stored_in l key) old)
-      | inr new ↦ inr (λ key.
-          ap (λ (l : List (List ℕ)). stored_in l key) (new.0 ∙ ap₂ (λ (b r : List ℕ). recovered (g.D.Disk.seen it.log.disk) ++ new_batch b r ∷ []) c.deref.ensures.value c.deref-2.ensures.value)
-          ∙ flushed_stored _ _ _ _ _ _ rests.front rests.place rests.whole (s.open_log.formed whole was) s.held few short (s.places whole was) key)
-    ]
+    left_content g.D.Disk it c.requires.settled whole (c.append.ensures.clean clean) few short left
+    (subst (λ (b : List ℕ). IsLeft it.log.gate (g.D.Disk.seen it.log.disk) b left) (ap₂ new_batch c.deref.ensures.value c.deref-2.ensures.value) (c.append.ensures.any_moment whole clean left may))
+
+pub returns-clause-opens_again : goal.returns-clause-opens_again
+returns-clause-opens_again g c whole clean left may =
+    left_opens g.D.Disk c.args.self.now c.requires.settled whole (c.append.ensures.clean clean) _ left (c.append.ensures.any_moment whole clean left may)
 
 pub returns-clause-flushed : goal.returns-clause-flushed
-returns-clause-flushed g c whole clean key =
-    let s = c.requires.settled in
+returns-clause-flushed g c whole clean =
     let it = c.args.self.now in
-    let was = c.append.ensures.clean clean in
-    let rests = (s.open_log.ready whole was).rests in
     let few : length it.bodies.items < 2 ^ 64 = omega (arith, c.deref.type_inv.0, ap (λ (l : List ℕ). length l) c.deref.ensures.value) in
     let short : length it.rows.items < 2 ^ 64 = omega (arith, c.deref-2.type_inv.0, ap (λ (l : List ℕ). length l) c.deref-2.ensures.value) in
-    ap (λ (l : List (List ℕ)). stored_in l key) (c.in_ok-append.ensures.appended clean ∙ ap₂ (λ (b r : List ℕ). recovered (g.D.Disk.seen it.log.disk) ++ new_batch b r ∷ []) c.deref.ensures.value c.deref-2.ensures.value)
-    ∙ flushed_stored _ _ _ _ _ _ rests.front rests.place rests.whole (s.open_log.formed whole was) s.held few short (s.places whole was) key
-
-pub returns-clause-durable : goal.returns-clause-durable
-returns-clause-durable g c whole clean left may key =
-    let ready = c.append.ensures.open.ready c.in_ok-append.ensures.whole clean in
-    ap (λ (l : List (List ℕ)). stored_in l key) (kept _ _ _ ready.rests (ready.crash left may)) ∙ returns-clause-flushed g c whole clean key
-
-pub returns-clause-same : goal.returns-clause-same
-returns-clause-same g c whole clean key =
-    let s = c.requires.settled in
-    let it = c.args.self.now in
-    let first = c.append.ensures.was_whole whole in
-    let was = c.append.ensures.clean clean in
-    let old = (s.open_log.ready first was).rests in
-    let rests = (c.append.ensures.open.ready whole clean).rests in
-    let few : length it.bodies.items < 2 ^ 64 = omega (arith, c.deref.type_inv.0, ap (λ (l : List ℕ). length l) c.deref.ensures.value) in
-    let short : length it.rows.items < 2 ^ 64 = omega (arith, c.deref-2.type_inv.0, ap (λ (l : List ℕ). length l) c.deref-2.ensures.value) in
-    let grown = c.in_ok-append.ensures.appended clean ∙ ap₂ (λ (b r : List ℕ). recovered (g.D.Disk.seen it.log.disk) ++ new_batch b r ∷ []) c.deref.ensures.value c.deref-2.ensures.value in
-    idle_stored (g.D.Disk.seen c.append.new.self.disk) c.clear.new.self.items c.append.new.self.gate (recovered (g.D.Disk.seen c.append.new.self.disk)) (get nat_eq it.index) rests.front rests.place rests.whole (c.append.ensures.open.formed whole clean)
-    (λ q. s.places first was q ∙ flushed_places _ _ _ _ q old.place few short ∙ ap (λ (l : List (List ℕ)). places_in 16 l nowhere q) (sym grown)) key
-    ∙ returns-clause-flushed g c first clean key
+    held_content g.D.Disk it c.requires.settled whole (c.append.ensures.clean clean) few short _
+    (c.in_ok-append.ensures.appended clean ∙ ap₂ (λ (b r : List ℕ). recovered (g.D.Disk.seen it.log.disk) ++ new_batch b r ∷ []) c.deref.ensures.value c.deref-2.ensures.value)
 
 pub returns-clause-settled : goal.returns-clause-settled
 returns-clause-settled g c =
@@ -123,4 +91,22 @@ returns-clause-settled g c =
           let grown = c.in_ok-append.ensures.appended clean ∙ ap₂ (λ (b r : List ℕ). recovered (g.D.Disk.seen it.log.disk) ++ new_batch b r ∷ []) c.deref.ensures.value c.deref-2.ensures.value in
           s.places first was q ∙ flushed_places _ _ _ _ q old.place few short ∙ ap (λ (l : List (List ℕ)). places_in 16 l nowhere q) (sym grown)
           ∙ sym (idle_places _ _ _ q c.clear-2.ensures.items);
+      names = λ whole clean name.
+          let first = c.append.ensures.was_whole whole in
+          let was = c.append.ensures.clean clean in
+          let grown = c.in_ok-append.ensures.appended clean ∙ ap₂ (λ (b r : List ℕ). recovered (g.D.Disk.seen it.log.disk) ++ new_batch b r ∷ []) c.deref.ensures.value c.deref-2.ensures.value in
+          s.names first was name ∙ flushed_names _ it.bodies.items it.rows.items name few short ∙ ap (λ (l : List (List ℕ)). named_in l name) (sym grown)
+          ∙ sym (idle_names _ _ name c.clear-2.ensures.items);
     }
+
+pub returns-clause-durable : goal.returns-clause-durable
+returns-clause-durable g c whole clean left may =
+    let all = returns-clause-flushed g c whole clean in
+    let same = same_batches _ _ (rest_kept g.D.Disk _ (returns-clause-settled g c) c.in_ok-append.ensures.whole clean left may) in
+    record { blobs = λ key. same.blobs key ∙ all.blobs key; names = λ name. same.names name ∙ all.names name }
+
+pub returns-clause-same : goal.returns-clause-same
+returns-clause-same g c whole clean =
+    let all = returns-clause-flushed g c (c.append.ensures.was_whole whole) clean in
+    let idle = idle_content g.D.Disk _ (returns-clause-settled g c) whole clean c.clear-2.ensures.items in
+    record { blobs = λ key. sym (idle.blobs key) ∙ all.blobs key; names = λ name. sym (idle.names name) ∙ all.names name }

@@ -1,0 +1,84 @@
+//! What a file of blobs has, without the bodies.
+
+ghost use Rattle.blob_file.specs.File.{IsSettled, Lists, ListsBlobs, listed_entry, named, stored};
+ghost use Rattle.blob_file.specs.declared.file_error.FileError.TheVariants.{OutOfMemory};
+ghost use Rattle.sqlite_wal.specs.Reads.{IsClean};
+ghost use Rattle.std.specs.HashMap.{IsUnique};
+ghost use Rattle.std.specs.Prelude.{IfErr, IfOk, IsTrue, List, OnOk, length, map, nat_eq, ℕ, ◌≡◌};
+
+use crate::file::BlobFile;
+use crate::file_error::FileError;
+use crate::index::Places;
+use sqlite_disk::Disk;
+use std::alloc::Global;
+
+/// A blob of a file, without its body.
+#[derive(Clone, Copy, Debug, PartialEq, Eq)]
+pub struct ListedBlob {
+    pub key: u128,
+    /// How many child keys the body begins with, of 16 bytes each.
+    pub children: u32,
+    /// How many bytes the body has behind them.
+    pub bytes: u32,
+}
+
+/// How much a file has, and holds.
+#[derive(Clone, Copy, Debug, PartialEq, Eq)]
+pub struct Counts {
+    /// The blobs, flushed or held.
+    pub blobs: usize,
+    /// The names that stand for a key, flushed or held.
+    pub names: usize,
+    /// The bytes of the file up to the gate behind its last batch.
+    pub flushed_bytes: usize,
+    /// The bytes of bodies that are held in memory until a flush.
+    pub held_bytes: usize,
+}
+
+/// Lists the blobs of an index.
+fn list_places(alloc: Global, places: &Places) -> Result<Vec<ListedBlob>, FileError>
+    ensures all { IfOk result (λ listed. listed.items ≡ map listed_entry places.now.entries) }
+    ensures unique { OnOk result (IsUnique nat_eq places.now) }
+    ensures kind { IfErr result (λ e. e ≡ OutOfMemory) }
+{
+    let mut listed = Vec::new(alloc);
+    for (key, place) in places {
+        listed.push(ListedBlob {
+            key: *key,
+            children: place.children,
+            bytes: place.bytes,
+        })?;
+    }
+    Ok(listed)
+}
+
+impl<D: Disk> BlobFile<D> {
+    /// Lists each blob, flushed or held, once, and no other, in no particular order.
+    ///
+    /// # Errors
+    ///
+    /// `OutOfMemory`.
+    pub fn list(&self, alloc: Global) -> Result<Vec<ListedBlob>, FileError>
+        requires settled { IsSettled D.Disk self.now }
+        ensures each { IfOk result (λ listed. IsTrue self.now.log.is_whole → IsClean D.Disk self.now.log.disk
+            → ListsBlobs (stored D.Disk self.now) listed.items) }
+        ensures kind { IfErr result (λ e. e ≡ OutOfMemory) }
+    {
+        list_places(alloc, &self.index.places)
+    }
+
+    /// Returns how much the file has, without a walk over it.
+    pub fn counts(&self) -> Counts
+        ensures blobs { (keys : List ℕ) → Lists (stored D.Disk self.now) keys → result.blobs ≡ length keys }
+        ensures names { (names : List (List ℕ)) → Lists (named self.now) names → result.names ≡ length names }
+        ensures flushed { result.flushed_bytes ≡ self.now.log.gate }
+        ensures held { result.held_bytes ≡ length self.now.bodies.items }
+    {
+        Counts {
+            blobs: self.index.places.len(),
+            names: self.index.names.len(),
+            flushed_bytes: self.log.gate,
+            held_bytes: self.bodies.len(),
+        }
+    }
+}
