@@ -1,10 +1,10 @@
 -- The rows of a batch, and what they say: where the blobs stand, and which keys the names stand for.
-use Rattle.std.specs.Prelude.{◌≡◌, ℕ, zero, suc, ◌+◌, ◌*◌, ◌==◌, nat_eq, nat_le, Bool, if◌then◌else◌, ⊤}
+use Rattle.std.specs.Prelude.{◌≡◌, ℕ, zero, suc, ◌+◌, ◌*◌, ◌==◌, nat_eq, nat_le, Bool, if◌then◌else◌, IsTrue, ⊤}
 use Rattle.std.specs.Prelude.{List, [], ◌∷◌, ◌++◌, length, take, drop, Option, Some, None, option_map}
 use Rattle.std.specs.HashMap.{get, get_by_text}
 use Rattle.std.specs.Int.{w128, w32, from_le_bytes, to_le_bytes}
 use Rattle.std.specs.Map.{update}
-use Rattle.std.specs.Str.{IsUtf8, bytes_eq}
+use Rattle.std.specs.Str.{bytes_eq, is_utf8}
 use Rattle.sqlite_wal.specs.Format.{part}
 use Rattle.blob_file.specs.Format.{header, number, joined, rows_of}
 use Rattle.blob_file.specs.declared.index.Index.{Index}
@@ -104,7 +104,7 @@ unnamed q = None
 -- each name is UTF-8
 abbrev pub AreTexts : List (List ℕ × Option ℕ) → Type 0
 AreTexts [] = ⊤
-AreTexts (n ∷ ns) = IsUtf8 n.0 × AreTexts ns
+AreTexts (n ∷ ns) = IsTrue (is_utf8 n.0) × AreTexts ns
 
 -- the rows are whole, their names are texts, and their blobs' bodies are as long as this
 pub record AreWhole (bodies : ℕ) (rows : List ℕ) : Type 0 where

@@ -1,2 +1,3 @@
 mod Keys
+mod Naming
 mod Stored

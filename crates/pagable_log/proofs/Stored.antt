@@ -1,7 +1,8 @@
 -- What a body under a key says of the blob that is stored there.
-use Rattle.blob_file.specs.{File.SameBlobs, Rows.Body}
+use Rattle.blob_file.specs.{File.{Content, Same, SameBlobs, SameNames}, Rows.Body}
 use Rattle.pagable_log.proofs.Keys.{all_back, keys-length}
-use Rattle.pagable_log.specs.Bodies.{CanBeKey, RefusesOther, RefusesRead, blob_if_some, blob_in, blobs_of, body_of, keys_in, unless, with_bytes}
+use Rattle.pagable_log.specs.Bodies.{CanBeKey, RefusesOther, RefusesRead, blob_if_some, blob_in, blobs_of, body_of, keys_in, roots_unless, unless, with_bytes}
+use Rattle.pagable_core.specs.Roots.{StaysOrTakes, Sets}
 use Rattle.pagable_value_spec.specs.{Blob.Blob, Stored.{Adds, Keeps, RefusesFetch, RefusesStore}, declared.error.Error.Error}
 use Rattle.std.proofs.{
   Common.{Bool, List, None, Option, Some, ap, arith, drop, false, inl, inr, length, refl, sym, take, true, ℕ, ◌*◌, ◌++◌, ◌∙◌, ◌≡◌},
@@ -12,7 +13,7 @@ use Rattle.std.specs.{
   Int.{to_le_bytes, w128},
   List.{AllByRecursion as Each, flat_map},
   Map.update,
-  Prelude.{if◌then◌else◌, nat_eq, option_map, ◌==◌},
+  Prelude.{if◌then◌else◌, nat_eq, option_map, ◌==◌, ◌⊎◌},
 }
 use Rattle.pagable_value_spec.specs.declared.error.Error.TheVariants as error
 
@@ -28,6 +29,20 @@ blob_back b fit =
 -- the same bodies are the same blobs
 pub same_blobs : (closed : Bool) (old new : ℕ → Option Body) → SameBlobs old new → unless closed (blobs_of new) ≡ unless closed (blobs_of old)
 same_blobs closed old new same = ap (unless closed) (λ i key. blob_if_some (same key i))
+
+-- the same names
+pub same_roots : (closed : Bool) (old new : List ℕ → Option ℕ) → SameNames old new → roots_unless closed new ≡ roots_unless closed old
+same_roots closed old new same = ap (roots_unless closed) (λ i name. same name i)
+
+-- the same where a look came between
+pub same_roots_behind : (closed : Bool) (old mid new : List ℕ → Option ℕ) → SameNames old mid → SameNames mid new → roots_unless closed new ≡ roots_unless closed old
+same_roots_behind closed old mid new before after = same_roots closed mid new after ∙ same_roots closed old mid before
+
+-- what the names durably stand for stays, or becomes what they stand for
+pub stays_or_takes : (closed : Bool) (was now after : Content) → Same was after ⊎ Same now after
+    → StaysOrTakes (roots_unless closed now.key) (roots_unless closed was.key) (roots_unless closed after.key)
+stays_or_takes closed was now after (inl same) = inl (same_roots closed was.key after.key same.names)
+stays_or_takes closed was now after (inr same) = inr (same_roots closed now.key after.key same.names)
 
 -- a blob that stands there already adds nothing
 pub adds_nothing : (closed : Bool) (old new : ℕ → Option Body) (key : ℕ) (blob : Blob) → closed ≡ false → SameBlobs old new
@@ -75,8 +90,10 @@ other_refuses found blob closed was now error.OutOfMemory h = tt
 other_refuses found blob closed was now (error.Storage code) h = h
 other_refuses found blob closed was now x0 h = grind arith
 
-pub ruleset fetching = (same_blobs, read_refuses)
+pub ruleset fetching = (same_blobs, same_roots, read_refuses)
 
-pub ruleset storing = (add_refuses, adds_new, adds_nothing, keeps_same, other_refuses, same_blobs)
+pub ruleset storing = (same_roots_behind, add_refuses, adds_new, adds_nothing, keeps_same, other_refuses, same_blobs, same_roots)
 
-pub ruleset flushing = (same_blobs)
+pub ruleset flushing = (same_blobs, same_roots, stays_or_takes)
+
+pub ruleset naming = (same_blobs, same_roots)

@@ -58,6 +58,14 @@ no_blobs key = None
 abbrev pub unless : Bool → (ℕ → Option Blob) → ℕ → Option Blob
 unless closed blobs = if closed then no_blobs else blobs
 
+-- no name stands for any key
+abbrev pub no_roots : List ℕ → Option ℕ
+no_roots name = None
+
+-- the key that each name stands for, unless the storage was closed
+abbrev pub roots_unless : Bool → (List ℕ → Option ℕ) → List ℕ → Option ℕ
+roots_unless closed roots = if closed then no_roots else roots
+
 -- a test of what was read of a blob refuses it, or memory runs out
 abbrev pub RefusesRead : ℕ → ℕ → Error → Type 0
 RefusesRead before after Error.OutOfMemory = Unit {0}

@@ -42,7 +42,9 @@ impl Fault {
     pub fn of_file(error: FileError) -> Option<Fault> {
         match error {
             FileError::OutOfMemory => None,
-            FileError::NotBlobs | FileError::Damaged => Some(Fault::Damaged),
+            FileError::NotBlobs | FileError::Damaged | FileError::NoSuchBlob => Some(
+                Fault::Damaged,
+            ),
             FileError::Failed => Some(Fault::Io),
             FileError::Shut => Some(Fault::Shut),
             FileError::TooLong => Some(Fault::TooLong),

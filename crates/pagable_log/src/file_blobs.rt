@@ -1,14 +1,13 @@
 //! A storage of blobs in a file.
 
 ghost use Rattle.blob_file.specs.{
-  File.{IsSettled, SameBlobs, flushed, found_body, stored},
+  File.{IsSettled, Same, SameBlobs, SameNames, content, content_of, flushed, found_body, named, stored},
   Format.recovered,
   Opening.{KeepsBatches, KeepsBytesUnlessFailed, Refuses},
-  Rows.stored_in,
 };
 ghost use Rattle.pagable_core.specs.Data.{blob_of};
 ghost use Rattle.pagable_log.specs.{
-  Bodies.{CanBeKey, RefusesOther, RefusesRead, blob_if_some, blobs_of, body_of, unless},
+  Bodies.{CanBeKey, RefusesOther, RefusesRead, blob_if_some, blobs_of, body_of, roots_unless, unless},
   Settled.{is_honest_file, settled_prop},
 };
 ghost use Rattle.pagable_value_spec.specs.{Blob.key_of};
@@ -57,8 +56,9 @@ impl<E: Env, D: Disk + Drop> FileBlobs<E, D> {
     pub fn over(alloc: Global, disk: D) -> Result<FileBlobs<E, D>, (FileError, D)>
         requires usable { IsTrue (D.Disk.is_usable disk) }
         ensures open { IfOk result (λ blobs. blobs.closed ≡ false) }
-        ensures found { IfOk result (λ blobs. IsClean D.Disk blobs.file.log.disk → (key : _)
-            → blob_if_some (stored D.Disk blobs.file key) ≡ blob_if_some (stored_in (recovered (D.Disk.seen disk)) key)) }
+        ensures found { IfOk result (λ blobs. IsClean D.Disk blobs.file.log.disk
+            → Same (content_of (recovered (D.Disk.seen disk))) (content D.Disk blobs.file)) }
+        ensures whole { IfOk result (λ blobs. IsTrue blobs.file.log.is_whole) }
         ensures moment { IfOk result (λ blobs. KeepsBatches D.Disk disk blobs.file.log.disk) }
         ensures moment_err { IfErr result (λ e. KeepsBatches D.Disk disk e.1) }
         ensures refused { IfErr result (λ e. Refuses (IsClean D.Disk e.1) (D.Disk.seen disk) (D.Disk.faults disk) (D.Disk.faults e.1) e.0) }
@@ -102,13 +102,17 @@ impl<E: Env, D: Disk + Drop> FileBlobs<E, D> {
 impl<E: Env, D: Disk + Drop> PagableStorage<E> for FileBlobs<E, D> {
     ghost stored = { λ s. unless s.closed (blobs_of (stored D.Disk s.file)) };
 
-    ghost flushed = { λ s. unless s.closed (blobs_of (flushed D.Disk s.file)) };
+    ghost flushed = { λ s. unless s.closed (blobs_of (flushed D.Disk s.file).blob) };
 
     ghost is_closed = { λ s. s.closed };
 
     ghost is_honest = { λ s. is_honest_file D.Disk s.file };
 
     ghost failed = { λ s. s.stats.failures };
+
+    ghost roots = { λ s. roots_unless s.closed (named s.file) };
+
+    ghost roots_flushed = { λ s. roots_unless s.closed (flushed D.Disk s.file).key };
 
     #[tactic(auto, using(crate::proofs::Stored::fetching))]
     fn fetch_data_blocking(
@@ -249,6 +253,7 @@ fn add_blob<D: Disk + Drop>(
         ≡ update nat_eq (stored D.Disk file.old) key (Some (body_of (blob_of blob.now))) q) }
     ensures fit { OnOk result (AllByRecursion CanBeKey (blob_of blob.now).keys) }
     ensures kept { OnErr result (SameBlobs (stored D.Disk file.old) (stored D.Disk file.new)) }
+    ensures names { SameNames (named file.old) (named file.new) }
     ensures log { file.new.log ≡ file.old.log }
     ensures only { IfErr result (RefusesRead stats.old.failures stats.new.failures) }
     ensures failures_never_fall { stats.old.failures ≤ stats.new.failures }

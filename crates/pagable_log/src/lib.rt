@@ -7,14 +7,17 @@
 pub mod bodies;
 pub mod fault;
 pub mod file_blobs;
+pub mod laws;
 pub mod open_error;
 pub mod opening;
+mod roots;
 pub mod stats;
 
 pub use fault::Fault;
 pub use file_blobs::FileBlobs;
 pub use open_error::OpenError;
 pub use opening::FileOfBlobs;
+pub use pagable_core::Roots;
 pub use stats::Stats;
 
 #[cfg(test)]

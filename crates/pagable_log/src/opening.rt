@@ -1,9 +1,8 @@
 //! The open of a file of blobs by its path.
 
-ghost use Rattle.blob_file.specs.{File.stored, Format.recovered, Rows.stored_in};
-ghost use Rattle.pagable_log.specs.Bodies.{blob_if_some};
+ghost use Rattle.blob_file.specs.{File.{Same, content, content_of}, Format.recovered};
 ghost use Rattle.sqlite_wal.specs.Reads.{IsClean};
-ghost use Rattle.std.specs.Prelude.{IfOk, false, ◌≡◌};
+ghost use Rattle.std.specs.Prelude.{IfOk, IsTrue, false, ◌≡◌};
 
 use crate::file_blobs::FileBlobs;
 use crate::open_error::OpenError;
@@ -11,6 +10,19 @@ use blob_host::{HostDisk, HostFile, Start, Wary};
 use pagable_codec::Env;
 use sqlite_disk::{Disk, Memory, Modelled};
 use std::alloc::Global;
+
+/// Opens the blobs of a disk that shows these bytes.
+fn open_disk<E: Env, D: Disk + Drop>(alloc: Global, disk: D) -> Result<FileBlobs<E, D>, OpenError>
+    requires usable { IsTrue (D.Disk.is_usable disk) }
+    ensures usable { IfOk result (λ blobs. blobs.closed ≡ false) }
+    ensures found { (bytes : _) → D.Disk.seen disk ≡ bytes → IfOk result (λ blobs. IsClean D.Disk blobs.file.log.disk
+        → Same (content_of (recovered bytes)) (content D.Disk blobs.file)) }
+{
+    match FileBlobs::over(alloc, disk) {
+        Ok(blobs) => Ok(blobs),
+        Err((error, _disk)) => Err(OpenError::from(error)),
+    }
+}
 
 /// A storage over a file of the operating system.
 pub type FileOfBlobs<E> = FileBlobs<E, HostDisk<Wary>>;
@@ -42,15 +54,11 @@ impl<E: Env, S: Start> FileBlobs<E, HostDisk<S>> {
         start: S,
     ) -> Result<FileBlobs<E, HostDisk<S>>, OpenError>
         ensures usable { IfOk result (λ blobs. blobs.closed ≡ false) }
-        ensures found { IfOk result (λ blobs. IsClean ⟦<Modelled<HostFile, S> as Disk>⟧ blobs.file.log.disk → (key : _)
-            → blob_if_some (stored ⟦<Modelled<HostFile, S> as Disk>⟧ blobs.file key)
-            ≡ blob_if_some (stored_in (recovered S.Start.db) key)) }
+        ensures found { IfOk result (λ blobs. IsClean ⟦<Modelled<HostFile, S> as Disk>⟧ blobs.file.log.disk
+            → Same (content_of (recovered S.Start.db)) (content ⟦<Modelled<HostFile, S> as Disk>⟧ blobs.file)) }
     {
         let found = blob_host::open(rt, path, start)?;
-        match FileBlobs::over(rt.alloc(), found.disk) {
-            Ok(blobs) => Ok(blobs),
-            Err((error, _disk)) => Err(OpenError::from(error)),
-        }
+        open_disk(rt.alloc(), found.disk)
     }
 }
 
@@ -63,9 +71,6 @@ impl<E: Env> FileBlobs<E, Memory> {
     pub fn in_memory(alloc: Global) -> Result<FileBlobs<E, Memory>, OpenError>
         ensures usable { IfOk result (λ blobs. blobs.closed ≡ false) }
     {
-        match FileBlobs::over(alloc, Memory::new(alloc)) {
-            Ok(blobs) => Ok(blobs),
-            Err((error, _disk)) => Err(OpenError::from(error)),
-        }
+        open_disk(alloc, Memory::new(alloc))
     }
 }

@@ -19,5 +19,5 @@ returns-in-Ok-None-clause-adds g c honest =
     let was_clean : IsTrue (g.D.Disk.is_clean c.fetch.new.self.log.disk) = sym (ap (λ (log : Log _). g.D.Disk.is_clean log.disk) c.add_blob.ensures.log) ∙ clean in
     let none : stored g.D.Disk it.file c.compute_key-key.result ≡ None =
     ap (λ k. stored g.D.Disk it.file k) (sym c.get.ensures.value) ∙ sym (c.in-Ok-None.ensures.found was_clean) ∙ ap found_body c.in-Ok-None.field-0-is in
-    rw (← c.compute_key-key.ensures) (adds_behind it.closed _ (stored g.D.Disk c.fetch.new.self) _ _ _ c.if-self.false c.fetch.ensures.same
+    rw (← c.compute_key-key.ensures) (adds_behind it.closed _ (stored g.D.Disk c.fetch.new.self) _ _ _ c.if-self.false c.fetch.ensures.same.blobs
     c.in_ok-add_blob-in-Ok-None.ensures.fit none (c.in_ok-add_blob-in-Ok-None.ensures.added clean))
