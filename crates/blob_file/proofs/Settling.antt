@@ -83,8 +83,7 @@ name_row : (r : Row) (name : List ℕ) → row_of (row_bytes r) ≡ r → r.chil
     → IsRow (row_bytes r ++ name) × (row_of (row_bytes r ++ name) ≡ r) × (is_name (row_of (row_bytes r ++ name)) ≡ true)
 name_row r name back mark size =
     let says : row_of (row_bytes r ++ name) ≡ r = row_of-append (row_bytes r) name (omega arith) ∙ back in
-    let is : is_name r ≡ true = eq-eqb r.children 4294967295 mark in
-    (
+    let is : is_name r ≡ true = eq-eqb r.children 4294967295 mark in (
       row_len-is (row_bytes r ++ name) r says ∙ ap (λ (t : Bool). 24 + (if t then r.bytes else 0)) is ∙ omega (arith, size),
       says,
       ap is_name says ∙ is,

@@ -57,7 +57,12 @@ impl<D: Disk> BlobFile<D> {
     ///
     /// `NoSuchBlob` if no blob is stored under the key, flushed or held, or it is 0; `OutOfMemory`;
     /// `TooLong` if the name has 4 GiB or more; `Shut` after a flush that failed. Nothing changes.
-    pub fn set_root(&mut self, alloc: Global, name: &str, key: Option<u128>) -> Result<(), FileError>
+    pub fn set_root(
+        &mut self,
+        alloc: Global,
+        name: &str,
+        key: Option<u128>,
+    ) -> Result<(), FileError>
         requires settled { IsSettled D.Disk self.old }
         ensures named { OnOk result ((q : List ℕ) → named self.new q
             ≡ update bytes_eq (named self.old) name.now key q) }
