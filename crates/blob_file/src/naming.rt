@@ -4,7 +4,8 @@ ghost use Rattle.blob_file.specs.File.{HasNoBlob, IsSettled, Lists, NameFails, N
 ghost use Rattle.blob_file.specs.{File.{content, named, stored}, Rows.{key_given}};
 ghost use Rattle.blob_file.specs.declared.file_error.FileError.TheVariants.{OutOfMemory};
 ghost use Rattle.std.specs.{HashMap.{get, get_by_text}, Map.{update}, Str.{bytes_eq}, String.{string_bytes}};
-ghost use Rattle.std.specs.Prelude.{IfErr, IfNone, IfOk, IfSome, IsSome, List, OnErr, OnOk, OnSome, map, nat_eq, ℕ, ◌≡◌};
+ghost use Rattle.std.specs.Prelude.{IfErr, IfNone, IfOk, IfSome, IsSome, List, OnErr, OnOk, OnSome, map, nat_eq};
+ghost use Rattle.std.specs.Prelude.{ℕ, ◌≡◌};
 
 use crate::file::BlobFile;
 use crate::file_error::FileError;
