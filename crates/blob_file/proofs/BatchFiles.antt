@@ -1,5 +1,7 @@
 -- Batches one behind the other, and what stands for them.
-use Rattle.std.proofs.Common.{◌≡◌, ◌≢◌, refl, sym, ◌∙◌, ap, ap₂, subst, ℕ, zero, suc, ◌+◌, ◌-◌, ◌<◌, ◌≤◌, Bool, true, false, if◌then◌else◌, List, [], ◌∷◌, ◌++◌, length, take, drop, arith, append_assoc, append-nil, length-append, take_at, drop_at, take-append-drop, get_or-take, get_or-drop, ext_get_or, add-zero, length-take, take-add}
+use Rattle.std.proofs.Common.{◌≡◌, ◌≢◌, refl, sym, ◌∙◌, ap, ap₂, subst, ℕ, zero, suc, ◌+◌, ◌-◌, ◌<◌, ◌≤◌, Bool, true, false, if◌then◌else◌, List, [], ◌∷◌, ◌++◌}
+use Rattle.std.proofs.Common.{length, take, drop, arith, append_assoc, append-nil, length-append, take_at, drop_at, take-append-drop, get_or-take, get_or-drop}
+use Rattle.std.proofs.Common.{ext_get_or, add-zero, length-take, take-add}
 use Rattle.std.specs.Prelude.{slice_index}
 use Rattle.std.specs.Int.{w64, from_le_bytes}
 use Rattle.std.proofs.lemmas.Bool.{and_from, and_left, eq-eqb, ne_eqb, le-leb}
@@ -61,7 +63,8 @@ unfolding joined
 batches-joined [] n m r e all = ap (λ (k : ℕ). batches k r) (omega (arith, e))
 batches-joined (b ∷ bs) zero m r e all = absurd (omega (arith, e))
 batches-joined (b ∷ bs) (suc n) m r e all =
-    ap (batches (suc n)) (append_assoc b (joined bs) r) ∙ batches-step n b (joined bs ++ r) all.0 ∙ ap (λ (l : List (List ℕ)). b ∷ l) (batches-joined bs n m r (omega (arith, e)) all.1)
+    ap (batches (suc n)) (append_assoc b (joined bs) r) ∙ batches-step n b (joined bs ++ r) all.0
+    ∙ ap (λ (l : List (List ℕ)). b ∷ l) (batches-joined bs n m r (omega (arith, e)) all.1)
 
 pub stands : (n : ℕ) (bs : List (List ℕ)) (r : List ℕ) → AreBatches bs → length bs ≤ n → slice_index r 0 ≢ 1 → batches n (joined bs ++ r) ≡ bs
 stands n bs r all few shut =
@@ -82,12 +85,19 @@ unfolding recovered
 recovered_of t = refl
 
 -- a file with these batches and a shut gate behind them stands for them
-pub recovered_at : (c : List ℕ) (gate : ℕ) (bs : List (List ℕ)) → gate ≤ length c → take gate c ≡ header ++ joined bs → AreBatches bs → slice_index c gate ≢ 1 → recovered c ≡ bs
+pub recovered_at : (c : List ℕ) (gate : ℕ) (bs : List (List ℕ)) → gate ≤ length c → take gate c ≡ header ++ joined bs → AreBatches bs → slice_index c gate ≢ 1
+    → recovered c ≡ bs
 recovered_at c gate bs within front all shut =
     let r = drop gate c in
     let whole : c ≡ header ++ (joined bs ++ r) = sym (take-append-drop gate c) ∙ ap (λ (l : List ℕ). l ++ r) front ∙ append_assoc header (joined bs) r in
     let behind : slice_index r 0 ≡ slice_index c gate = get_or-drop gate c 0 0 ∙ ap (slice_index c) (add-zero gate) in
-    let few : length bs ≤ length (header ++ (joined bs ++ r)) = omega (arith, few_batches bs all, length-append header (joined bs ++ r), length-append (joined bs) r) in
+    let few : length bs ≤ length (header ++ (joined bs ++ r)) = omega (
+      arith,
+      few_batches bs all,
+      length-append header (joined bs ++ r),
+      length-append
+          (joined bs) r,
+    ) in
     ap recovered whole ∙ recovered_of (joined bs ++ r) ∙ stands _ bs r all few (λ e. shut (sym behind ∙ e))
 
 pub same_front : (n gate : ℕ) (file c : List ℕ) → gate ≤ n → n ≤ length file → SameBelow n file c → take gate c ≡ take gate file
@@ -109,14 +119,16 @@ kept gate file c rests s =
     kept_shut gate file c rests (less_below gate (gate + 1) file c (omega arith) s) (λ e. rests.shut (sym (s.each gate (omega arith)) ∙ e))
 
 -- an open batch behind what was there, and a shut gate behind it
-pub grown : (gate : ℕ) (file c b : List ℕ) → RestsAt gate file → SameBelow gate file c → IsBatch b → gate + length b < length c → part c gate (length b) ≡ b → slice_index c (gate + length b) ≢ 1
+pub grown : (gate : ℕ) (file c b : List ℕ) → RestsAt gate file → SameBelow gate file c → IsBatch b → gate + length b < length c → part c gate (length b) ≡ b
+    → slice_index c (gate + length b) ≢ 1
     → (recovered c ≡ recovered file ++ b ∷ []) × RestsAt (gate + length b) c
 unfolding part
 grown gate file c b rests s it within is shut =
     let bs = recovered file in
     let front : take gate c ≡ header ++ joined bs = same_front gate gate file c (omega arith) (omega (arith, rests.within)) s ∙ rests.front in
     let longer : take (gate + length b) c ≡ header ++ joined (bs ++ b ∷ []) =
-    take-add gate (length b) c ∙ ap₂ (λ (x y : List ℕ). x ++ y) front is ∙ append_assoc header (joined bs) b ∙ ap (λ (l : List ℕ). header ++ l) (sym (joined-push bs b)) in
+    take-add gate (length b) c ∙ ap₂ (λ (x y : List ℕ). x ++ y) front is ∙ append_assoc header (joined bs) b
+    ∙ ap (λ (l : List ℕ). header ++ l) (sym (joined-push bs b)) in
     let all = all-push bs b rests.whole it in
     let found : recovered c ≡ bs ++ b ∷ [] = recovered_at c (gate + length b) (bs ++ b ∷ []) (omega arith) longer all shut in (
       found,

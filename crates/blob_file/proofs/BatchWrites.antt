@@ -1,5 +1,6 @@
 -- The batch that the three writes of a flush leave behind the shut gate.
-use Rattle.std.proofs.Common.{◌≡◌, ◌≢◌, refl, sym, ◌∙◌, ap, ap₂, ℕ, zero, suc, ◌+◌, ◌-◌, ◌<◌, ◌≤◌, List, [], ◌∷◌, ◌++◌, length, take, drop, arith, length-drop, add-zero}
+use Rattle.std.proofs.Common.{◌≡◌, refl, sym, ◌∙◌, ap, ap₂, ℕ, zero, suc, ◌+◌, ◌-◌, ◌<◌, ◌≤◌, List, [], ◌∷◌, ◌++◌, length, take, drop, arith}
+use Rattle.std.proofs.Common.{add-zero}
 use Rattle.std.specs.Prelude.{slice_index}
 use Rattle.std.specs.Int.{w64, from_le_bytes}
 use Rattle.sqlite_disk.specs.Disk.{Holds, Torn}
@@ -17,7 +18,8 @@ number_written file head gate k h within =
     let here : gate + (k + 1) ≡ gate + 1 + k = omega arith in
     ap (from_le_bytes w64) (part-drop file gate (k + 1) 8 ∙ ap (λ (x : ℕ). part file x 8) here ∙ part_held file head (gate + 1) k 8 h within)
 
-pub size_written : (file head : List ℕ) (gate n m : ℕ) → Holds file (gate + 1) head → length head ≡ 24 → number head 0 ≡ n → number head 8 ≡ m → size_of (drop gate file) ≡ 25 + n + m
+pub size_written : (file head : List ℕ) (gate n m : ℕ) → Holds file (gate + 1) head → length head ≡ 24 → number head 0 ≡ n → number head 8 ≡ m
+    → size_of (drop gate file) ≡ 25 + n + m
 unfolding size_of
 size_written file head gate n m h whole e f =
     ap₂ (λ (x y : ℕ). 25 + x + y) (number_written file head gate 0 h (omega (arith, whole)) ∙ e) (number_written file head gate 8 h (omega (arith, whole)) ∙ f)
@@ -50,7 +52,8 @@ pub record Wrote (gate : ℕ) (head bodies tail s0 s1 s2 s3 : List ℕ) : Type 0
   pub tail_size : number head 8 + 1 ≡ length tail
   pub last : slice_index tail (number head 8) ≡ 0
 
-size : (gate : ℕ) (head bodies tail s0 s1 s2 s3 : List ℕ) → Wrote gate head bodies tail s0 s1 s2 s3 → size_of (drop gate s3) ≡ 25 + length bodies + number head 8
+size : (gate : ℕ) (head bodies tail s0 s1 s2 s3 : List ℕ) → Wrote gate head bodies tail s0 s1 s2 s3
+    → size_of (drop gate s3) ≡ 25 + length bodies + number head 8
 size gate head bodies tail s0 s1 s2 s3 w = size_written s3 head gate (length bodies) (number head 8) w.head_there w.head_size w.bodies_size refl
 
 pub staged : (gate : ℕ) (head bodies tail s0 s1 s2 s3 : List ℕ) → Wrote gate head bodies tail s0 s1 s2 s3 → IsStaged gate s3
@@ -59,10 +62,19 @@ staged gate head bodies tail s0 s1 s2 s3 w =
     let end : gate + size_of (drop gate s3) ≡ gate + 25 + length bodies + number head 8 = omega (arith, it) in
     record {
       within = omega (arith, it, w.tail_there.within, w.tail_size, w.third.no_shorter);
-      next = λ bad. absurd (omega (arith, bad, ap (slice_index s3) end, w.third.above (gate + 25 + length bodies + number head 8) (omega (arith, w.tail_there.within, w.tail_size)) (omega (arith, w.head_size)), w.tail_there.each (number head 8) (omega (arith, w.tail_size)), w.last));
+      next = λ bad. absurd (omega (
+        arith,
+        bad,
+        ap (slice_index s3) end,
+        w.third.above (gate + 25 + length bodies + number head 8)
+            (omega (arith, w.tail_there.within, w.tail_size)) (omega (arith, w.head_size)),
+        w.tail_there.each (number head 8) (omega (arith, w.tail_size)),
+        w.last,
+      ));
     }
 
-pub batch_written : (gate : ℕ) (head bodies tail s0 s1 s2 s3 : List ℕ) → Wrote gate head bodies tail s0 s1 s2 s3 → batch_behind gate s3 ≡ batch_of head bodies (take (length tail - 1) tail)
+pub batch_written : (gate : ℕ) (head bodies tail s0 s1 s2 s3 : List ℕ) → Wrote gate head bodies tail s0 s1 s2 s3
+    → batch_behind gate s3 ≡ batch_of head bodies (take (length tail - 1) tail)
 unfolding part
 batch_written gate head bodies tail s0 s1 s2 s3 w =
     let n = length bodies in
@@ -77,8 +89,11 @@ batch_written gate head bodies tail s0 s1 s2 s3 w =
     ∙ below_or_none s1 s2 (gate + 25 + n) (length tail) (gate + 25) n w.second (omega arith) (λ some. (w.bodies_there some).within)
     ∙ part_or_none s1 bodies (gate + 25) w.bodies_there in
     let end : part s3 (gate + 25 + n) m ≡ take (length tail - 1) tail =
-    above_or_none s2 s3 (gate + 1) (length head) (gate + 25 + n) m w.third (omega (arith, w.head_size)) (λ some. omega (arith, w.tail_there.within, w.tail_size))
-    ∙ ap (λ (x : ℕ). part s2 x m) (sym last) ∙ part_held s2 tail (gate + 25 + n) 0 m w.tail_there (omega (arith, w.tail_size)) ∙ ap (λ (k : ℕ). take k tail) (sym few) in
+    above_or_none s2 s3 (gate + 1) (length head) (gate + 25 + n) m w.third (omega (arith, w.head_size))
+    (λ some. omega (arith, w.tail_there.within, w.tail_size))
+    ∙ ap (λ (x : ℕ). part s2 x m) (sym last) ∙ part_held s2 tail (gate + 25 + n) 0 m w.tail_there (omega (arith, w.tail_size))
+    ∙ ap (λ (k : ℕ). take k tail) (sym few) in
     ap (λ (l : List ℕ). 1 ∷ l)
     (ap (part s3 (gate + 1)) long ∙ part-add s3 (gate + 1) 24 (n + m)
-    ∙ ap₂ (λ (x y : List ℕ). x ++ y) first_part (ap (λ (x : ℕ). part s3 x (n + m)) behind ∙ part-add s3 (gate + 25) n m ∙ ap₂ (λ (x y : List ℕ). x ++ y) middle end))
+    ∙ ap₂ (λ (x y : List ℕ). x ++ y) first_part (ap (λ (x : ℕ). part s3 x (n + m)) behind ∙ part-add s3 (gate + 25) n m
+    ∙ ap₂ (λ (x y : List ℕ). x ++ y) middle end))

@@ -1,5 +1,6 @@
 -- How the rows of a batch are taken into an index.
-use Rattle.std.proofs.Common.{◌≡◌, ◌≢◌, refl, sym, ◌∙◌, ap, ap₂, ℕ, zero, suc, ◌+◌, ◌-◌, ◌*◌, ◌<◌, ◌≤◌, Bool, List, [], ◌∷◌, length, take, drop, arith, drop-drop, length-drop, take-take, Option, Some, cond, nat_eq}
+use Rattle.std.proofs.Common.{◌≡◌, refl, ◌∙◌, ap, ℕ, ◌+◌, ◌-◌, ◌≤◌, List, [], ◌∷◌, take, drop, arith}
+use Rattle.std.proofs.Common.{take-take, Option, Some, cond, nat_eq}
 use Rattle.std.specs.Map.{update}
 use Rattle.std.specs.Str.{bytes_eq}
 use Rattle.std.proofs.lemmas.List.{drop-take}
@@ -13,7 +14,8 @@ pub placed_same : (at : ℕ) (rs : List Row) (m n : ℕ → Option Place) → ((
 unfolding placed
 placed_same at [] m n same q = same q
 placed_same at (r ∷ rs) m n same q =
-    placed_same (at + size_of_row r) rs (update nat_eq m r.key (Some (place_at at r))) (update nat_eq n r.key (Some (place_at at r))) (λ k. ap (λ (x : Option Place). cond (nat_eq r.key k) (Some (place_at at r)) x) (same k)) q
+    placed_same (at + size_of_row r) rs (update nat_eq m r.key (Some (place_at at r))) (update nat_eq n r.key (Some (place_at at r)))
+    (λ k. ap (λ (x : Option Place). cond (nat_eq r.key k) (Some (place_at at r)) x) (same k)) q
 
 -- a part of the first bytes
 pub part_of_front : (b : List ℕ) (n at k : ℕ) → at + k ≤ n → part (take n b) at k ≡ part b at k

@@ -1,19 +1,10 @@
 -- What is listed of a map: each key once, and no other.
 use Rattle.blob_file.specs.File.{IsListedAs, Lists, ListsBlobs, listed_entry}
-use Rattle.blob_file.specs.Rows.{Body, size_of_place}
+use Rattle.blob_file.specs.Rows.{Body}
 use Rattle.blob_file.specs.declared.listing.ListedBlob.{ListedBlob}
 use Rattle.blob_file.specs.declared.rows.Place.{Place}
 use Rattle.blob_file.proofs.Placing.{AllKnown}
-use Rattle.std.proofs.{
-  Common.{Bool, List, Option, None, Some, ap, append-nil, arith, inl, inr, length, map, nat_eq, refl, subst, sym, true, zero, suc, ℕ, [], ◌++◌, ◌+◌, ◌*◌, ◌<◌, ◌≤◌, ◌∙◌, ◌∷◌, ◌≡◌, ◌⊎◌},
-  lemmas.{
-    Bool.{cases_Bool, both_ways},
-    Cmp.nat_eq_equiv,
-    Map.{Entries.length-keys_of, Made.{AllPairs-from_IsDistinct, IsDistinct-from_AllPairs, is_member-Decides, is_some-lookup, length-from_same_keys}},
-    Map.Views.{Contains-from_any, hash_map_contains_key_iff, hash_map_get_iff, list_any-from_Contains},
-    Slice.Eq.bytes_eq-Decides,
-  },
-}
+use Rattle.std.proofs.{Common.{Bool, List, Option, None, Some, ap, append-nil, arith, inl, inr, length, map, nat_eq, refl, subst, sym, true, zero, suc, ℕ, [], ◌++◌, ◌∙◌, ◌∷◌, ◌≡◌}, lemmas.{Bool.{cases_Bool}, Cmp.nat_eq_equiv, Map.{Entries.length-keys_of, Made.{AllPairs-from_IsDistinct, IsDistinct-from_AllPairs, is_member-Decides, is_some-lookup, length-from_same_keys}}, Map.Views.{Contains-from_any, hash_map_contains_key_iff, hash_map_get_iff, list_any-from_Contains}, Slice.Eq.bytes_eq-Decides}}
 use Rattle.std.specs.{
   Bool.Decides,
   Cmp.{IsEquivalence, Lexicographic.nat_list_eq_equiv, unsigned_Decides},
@@ -59,7 +50,8 @@ all_listed roots names left none all unique =
     subst (Lists (get_by_text roots)) (sym is) (keys_are_names roots unique)
 
 -- two lists of the same keys are as long
-pub same_length : {K X : Type 0} {eq : K → K → Bool} → IsEquivalence eq → ((a b : K) → Decides (eq a b) (a ≡ b)) → (found : K → Option X) (xs ys : List K) → Lists found xs → Lists found ys → length xs ≡ length ys
+pub same_length : {K X : Type 0} {eq : K → K → Bool} → IsEquivalence eq → ((a b : K) → Decides (eq a b) (a ≡ b)) → (found : K → Option X) (xs ys : List K)
+    → Lists found xs → Lists found ys → length xs ≡ length ys
 same_length {eq = eq} laws same found xs ys first second =
     length-from_same_keys laws xs ys (IsDistinct-from_AllPairs same xs first.once) (IsDistinct-from_AllPairs same ys second.once) λ q.
     alike (is_member eq xs q) (is_member eq ys q)
@@ -71,7 +63,8 @@ same_length {eq = eq} laws same found xs ys first second =
     alike false b to from = elim (cases_Bool b) [ inl is ↦ from is ∙ sym is | inr not ↦ sym not ]
 
 -- what is found of the same keys is listed alike
-pub lists_alike : {K X Y : Type 0} (f : K → Option X) (g : K → Option Y) (xs : List K) → ((q : K) → IsSome (g q) → IsSome (f q)) → ((q : K) → IsSome (f q) → IsSome (g q)) → Lists f xs → Lists g xs
+pub lists_alike : {K X Y : Type 0} (f : K → Option X) (g : K → Option Y) (xs : List K) → ((q : K) → IsSome (g q) → IsSome (f q))
+    → ((q : K) → IsSome (f q) → IsSome (g q)) → Lists f xs → Lists g xs
 lists_alike f g xs to from lists = record { once = lists.once; all = λ q some. lists.all q (to q some); only = λ q among. from q (lists.only q among) }
 
 pub some_mapped : {X Y : Type 0} (f : X → Y) (o : Option X) → IsSome o → IsSome (option_map f o)
@@ -91,14 +84,17 @@ lists_keys m unique = record {
 }
 
 -- how many blobs there are
-pub count_keys : {X Y S : Type 0} (f : X → Y) (m : HashMap ℕ X S) (listed : List ℕ) → IsUnique nat_eq m → Lists (λ key. option_map f (get nat_eq m key)) listed → hash_map_len m ≡ length listed
+pub count_keys : {X Y S : Type 0} (f : X → Y) (m : HashMap ℕ X S) (listed : List ℕ) → IsUnique nat_eq m → Lists (λ key. option_map f (get nat_eq m key)) listed
+    → hash_map_len m ≡ length listed
 count_keys f m listed unique lists =
     sym (length-keys_of m.entries)
     ∙ same_length nat_eq_equiv unsigned_Decides (get nat_eq m) (keys m) listed (lists_keys m unique)
-    (lists_alike (λ key. option_map f (get nat_eq m key)) (get nat_eq m) listed (λ q. some_mapped f (get nat_eq m q)) (λ q. mapped_some f (get nat_eq m q)) lists)
+    (lists_alike (λ key. option_map f (get nat_eq m key)) (get nat_eq m) listed (λ q. some_mapped f (get nat_eq m q))
+    (λ q. mapped_some f (get nat_eq m q)) lists)
 
 -- how many names there are
-pub count_names : {A S : Type 0} (m : HashMap (String A) ℕ S) (listed : List (List ℕ)) → IsUnique string_eq m → Lists (get_by_text m) listed → hash_map_len m ≡ length listed
+pub count_names : {A S : Type 0} (m : HashMap (String A) ℕ S) (listed : List (List ℕ)) → IsUnique string_eq m → Lists (get_by_text m) listed
+    → hash_map_len m ≡ length listed
 count_names m listed unique lists =
     sym (length-keys_of m.entries) ∙ sym (length_mapped (keys m))
     ∙ same_length nat_list_eq_equiv bytes_eq-Decides (get_by_text m) (map string_bytes (keys m)) listed (keys_are_names m unique) lists
@@ -121,15 +117,18 @@ listed_from (e ∷ es) it (suc k, low, is) =
     (x, (suc j, omega arith, at), same)
 
 -- each blob of an index is listed as it is
-pub lists_blobs : {S : Type 0} (blob : Place → Body) (m : HashMap ℕ Place S) (listed : List ListedBlob) → IsUnique nat_eq m → listed ≡ map listed_entry m.entries
+pub lists_blobs : {S : Type 0} (blob : Place → Body) (m : HashMap ℕ Place S) (listed : List ListedBlob) → IsUnique nat_eq m
+    → listed ≡ map listed_entry m.entries
     → AllKnown (λ p. IsListedAs (listed_entry (0, p)) (blob p)) (get nat_eq m) → ListsBlobs (λ key. option_map blob (get nat_eq m key)) listed
 lists_blobs blob m listed unique is known = record {
   keys = subst (Lists (λ key. option_map blob (get nat_eq m key))) (sym (ap (map (λ (it : ListedBlob). it.key)) is ∙ listed_keys m.entries))
-      (lists_alike (get nat_eq m) (λ key. option_map blob (get nat_eq m key)) (keys m) (λ q. mapped_some blob (get nat_eq m q)) (λ q. some_mapped blob (get nat_eq m q)) (lists_keys m unique));
+      (lists_alike (get nat_eq m) (λ key. option_map blob (get nat_eq m key)) (keys m) (λ q. mapped_some blob (get nat_eq m q))
+      (λ q. some_mapped blob (get nat_eq m q)) (lists_keys m unique));
   each = λ it among.
       let (e, at, same) = listed_from m.entries it (subst (λ (l : List ListedBlob). Contains l it) is among) in
       let found : get nat_eq m e.0 ≡ Some e.1 = (hash_map_get_iff nat_eq_equiv (λ x y. (unsigned_Decides x y).0) m unique e.0 e.1).1 at in
       let as_it = known e.0 e.1 found in
       subst (λ (x : ListedBlob). IsSomeAnd (option_map blob (get nat_eq m x.key)) (IsListedAs x)) same
-      (subst (λ (o : Option Place). IsSomeAnd (option_map blob o) (IsListedAs (listed_entry e))) (sym found) (record { children = as_it.children; bytes = as_it.bytes }));
+      (subst (λ (o : Option Place). IsSomeAnd (option_map blob o) (IsListedAs (listed_entry e))) (sym found)
+      (record { children = as_it.children; bytes = as_it.bytes }));
 }

@@ -1,7 +1,7 @@
 -- The batch of some bodies and rows, and what adding it leaves.
-use Rattle.std.proofs.Common.{◌≡◌, ◌⊎◌, inl, inr, refl, sym, ◌∙◌, ap, ap₂, subst, ℕ, ◌+◌, ◌-◌, ◌<◌, ◌≤◌, ◌^◌, List, [], ◌∷◌, ◌++◌, length, take, drop, arith, length-append, drop-drop, drop_at, take_at, take_all}
+use Rattle.std.proofs.Common.{◌≡◌, inl, inr, refl, sym, ◌∙◌, ap, ap₂, subst, ℕ, ◌+◌, ◌-◌, ◌<◌, ◌^◌, List, [], ◌∷◌, ◌++◌, length, take, drop, arith}
+use Rattle.std.proofs.Common.{length-append, drop-drop, drop_at, take_at, take_all}
 use Rattle.std.specs.Prelude.{slice_index}
-use Rattle.std.specs.Int.{w64, from_le_bytes, to_le_bytes}
 use Rattle.std.proofs.lemmas.List.{get_or_push, length_push}
 use Rattle.std.proofs.lemmas.Nat.{from_le_bytes-to_le_bytes_8}
 use Rattle.sqlite_disk.specs.declared.Disk.{Ghosts}
@@ -53,21 +53,25 @@ new_summed bodies rows few short fits = sum_there bodies rows fits ∙ ap (diges
 pub length-new_batch : (bodies rows : List ℕ) → length (new_batch bodies rows) ≡ 25 + length bodies + length rows
 length-new_batch bodies rows = omega (arith, length-append bodies rows)
 
-pub new_sound : (bodies rows : List ℕ) → length bodies < 2 ^ 64 → length rows < 2 ^ 64 → digest 0 rows < 2 ^ 64 → AreWhole (length bodies) rows → IsSound (new_batch bodies rows)
+pub new_sound : (bodies rows : List ℕ) → length bodies < 2 ^ 64 → length rows < 2 ^ 64 → digest 0 rows < 2 ^ 64 → AreWhole (length bodies) rows
+    → IsSound (new_batch bodies rows)
 new_sound bodies rows few short fits whole = record {
   summed = new_summed bodies rows few short fits;
-  formed = subst (AreWhole (number (new_batch bodies rows) 1)) (sym (rows_of-new_batch bodies rows few short)) (subst (λ (n : ℕ). AreWhole n rows) (sym (bodies_size bodies rows few)) whole);
+  formed = subst (AreWhole (number (new_batch bodies rows) 1)) (sym (rows_of-new_batch bodies rows few short))
+      (subst (λ (n : ℕ). AreWhole n rows) (sym (bodies_size bodies rows few)) whole);
 }
 
 -- a crash of a file that is ready
-pub left_ready : {D : Type 0} (g : Ghosts D) (gate : ℕ) (old new : D) (batch : List ℕ) → recovered (g.seen new) ≡ recovered (g.seen old) → SameBelow (gate + 1) (g.seen old) (g.seen new) → IsReady g gate new → (c : List ℕ) → g.may_leave new c → IsLeft gate (g.seen old) batch c
+pub left_ready : {D : Type 0} (g : Ghosts D) (gate : ℕ) (old new : D) (batch : List ℕ) → recovered (g.seen new) ≡ recovered (g.seen old)
+    → SameBelow (gate + 1) (g.seen old) (g.seen new) → IsReady g gate new → (c : List ℕ) → g.may_leave new c → IsLeft gate (g.seen old) batch c
 left_ready g gate old new batch same below ready c left = record {
   stands = inl (kept gate (g.seen new) c ready.rests (ready.crash c left) ∙ same);
   below = less_below gate (gate + 1) (g.seen old) c (omega arith) (same_then (gate + 1) (g.seen old) (g.seen new) c below (ready.crash c left));
 }
 
 -- a crash while the gate is opened
-pub left_sealed : (gate : ℕ) (old staged c batch : List ℕ) → recovered staged ≡ recovered old → batch_behind gate staged ≡ batch → IsSound batch → SameBelow (gate + 1) old staged → SameBelow gate staged c → IsOldOrNew (recovered staged) (batch_behind gate staged) c → IsLeft gate old batch c
+pub left_sealed : (gate : ℕ) (old staged c batch : List ℕ) → recovered staged ≡ recovered old → batch_behind gate staged ≡ batch → IsSound batch
+    → SameBelow (gate + 1) old staged → SameBelow gate staged c → IsOldOrNew (recovered staged) (batch_behind gate staged) c → IsLeft gate old batch c
 left_sealed gate old staged c batch same is summed first below stands = record {
   stands = elim stands [
     | inl was ↦ inl (was ∙ same)
@@ -77,10 +81,12 @@ left_sealed gate old staged c batch same is summed first below stands = record {
 }
 
 -- where the next gate is
-pub next_gate : (gate : ℕ) (file bodies rows : List ℕ) → IsStaged gate file → batch_behind gate file ≡ new_batch bodies rows → gate + size_of (drop gate file) ≡ gate + 25 + length bodies + length rows
+pub next_gate : (gate : ℕ) (file bodies rows : List ℕ) → IsStaged gate file → batch_behind gate file ≡ new_batch bodies rows
+    → gate + size_of (drop gate file) ≡ gate + 25 + length bodies + length rows
 next_gate gate file bodies rows staged is = omega (arith, length_behind gate file staged, ap length is, length-new_batch bodies rows)
 
 -- the batch that was written by a plan
-pub is_new : (gate : ℕ) (staged head bodies tail rows : List ℕ) → batch_behind gate staged ≡ batch_of head bodies (take (length tail - 1) tail) → head ≡ head_bytes (length bodies) rows → tail ≡ rows ++ 0 ∷ [] → batch_behind gate staged ≡ new_batch bodies rows
+pub is_new : (gate : ℕ) (staged head bodies tail rows : List ℕ) → batch_behind gate staged ≡ batch_of head bodies (take (length tail - 1) tail)
+    → head ≡ head_bytes (length bodies) rows → tail ≡ rows ++ 0 ∷ [] → batch_behind gate staged ≡ new_batch bodies rows
 is_new gate staged head bodies tail rows is e f =
     is ∙ ap₂ (λ (x y : List ℕ). batch_of x bodies (take (length y - 1) y)) e f ∙ ap (batch_of (head_bytes (length bodies) rows) bodies) (tail_front rows)

@@ -1,6 +1,6 @@
 -- What an open finds after a crash.
-use Rattle.std.proofs.Common.{◌≡◌, ◌⊎◌, inl, inr, refl, sym, ◌∙◌, ap, subst, ℕ, ◌+◌, ◌<◌, ◌≤◌, true, false, List, [], ◌∷◌, ◌++◌, length, take, arith}
-use Rattle.std.specs.Prelude.{Result, Ok, Err, IfOk, IfErr, OnErr, OnOk, IsTrue, is_ok}
+use Rattle.std.proofs.Common.{◌≡◌, inl, inr, refl, sym, ◌∙◌, subst, ℕ, ◌≤◌, true, false, List, take, arith}
+use Rattle.std.specs.Prelude.{Result, Ok, Err, IfOk, IfErr, OnErr, OnOk, is_ok}
 use Rattle.std.proofs.lemmas.Bool.{both_ways}
 use Rattle.std.proofs.lemmas.Slice.Eq.{bytes_eq-Decides}
 use Rattle.blob_file.specs.Format.{header, is_made, recovered, AreSummed}
@@ -29,10 +29,12 @@ on_ok_at (Err y) ok p = absurd (both_ways false refl ok)
 pub same_made : (gate : ℕ) (file c : List ℕ) → RestsAt gate file → SameBelow gate file c → is_made c ≡ true
 same_made gate file c rests s =
     let low : 16 ≤ gate = omega (arith, rests.place) in
-    (bytes_eq-Decides (take 16 c) header).1 (same_front gate 16 file c low (omega (arith, rests.within)) s ∙ (bytes_eq-Decides (take 16 file) header).0 (rests_made gate file rests))
+    (bytes_eq-Decides (take 16 c) header).1 (same_front gate 16 file c low (omega (arith, rests.within)) s
+    ∙ (bytes_eq-Decides (take 16 file) header).0 (rests_made gate file rests))
 
 -- a file that can be opened isn't refused for what it is
-pub not_refused : (clean : Type 0) (file : List ℕ) (before after : ℕ) (e : FileError) → clean → CanOpen file → Refuses clean file before after e → (e ≡ NotBlobs → ⊥) × (e ≡ Damaged → ⊥)
+pub not_refused : (clean : Type 0) (file : List ℕ) (before after : ℕ) (e : FileError) → clean → CanOpen file → Refuses clean file before after e
+    → (e ≡ NotBlobs → ⊥) × (e ≡ Damaged → ⊥)
 not_refused clean file before after e it can refuses = (
   λ is. both_ways (is_made file) (subst (Refuses clean file before after) is refuses it).0 can.made,
   λ is. subst (Refuses clean file before after) is refuses it (can.summed, can.formed),

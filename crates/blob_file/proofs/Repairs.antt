@@ -1,6 +1,8 @@
 -- What the end of a file is made to be at an open, and what a crash in it leaves.
-use Rattle.std.proofs.Common.{◌≡◌, ◌≢◌, ◌⊎◌, inl, inr, refl, sym, ◌∙◌, ap, subst, ℕ, zero, suc, ◌+◌, ◌-◌, ◌<◌, ◌≤◌, Bool, true, false, if◌then◌else◌, List, [], ◌∷◌, ◌++◌, length, take, drop, arith, append_assoc, append-nil, length-append, length-drop, length-take, take-append-drop, take-take, ext_get_or, get_or-drop, add-zero, Option, None}
-use Rattle.std.specs.Prelude.{slice_index, IsTrue, MatchBool}
+use Rattle.std.proofs.Common.{◌≡◌, ◌≢◌, ◌⊎◌, inl, inr, sym, ◌∙◌, ap, subst, ℕ, ◌+◌, ◌-◌, ◌<◌, ◌≤◌, Bool, true, false, if◌then◌else◌, List, []}
+use Rattle.std.proofs.Common.{◌∷◌, ◌++◌, length, take, drop, arith, append_assoc, append-nil, length-append, length-drop, take-append-drop}
+use Rattle.std.proofs.Common.{take-take, ext_get_or, get_or-drop, add-zero}
+use Rattle.std.specs.Prelude.{slice_index}
 use Rattle.std.proofs.lemmas.Bool.{and_parts, cases_eq, cases_lt, cases_order, cases_Bool, leb-true}
 use Rattle.std.proofs.lemmas.Slice.Eq.{bytes_eq-Decides}
 use Rattle.sqlite_disk.specs.declared.Disk.{Ghosts}
@@ -8,20 +10,23 @@ use Rattle.sqlite_disk.specs.Disk.{Holds, Torn, Only}
 use Rattle.sqlite_wal.specs.Gate.{IsShut}
 use Rattle.blob_file.specs.Format.{header, new_file, is_open, is_made, is_unmade, batches, recovered, joined, AreBatches, AreSummed}
 use Rattle.blob_file.specs.Log.{EndsAt, RestsAt, SameBelow, IsReady}
-use Rattle.blob_file.specs.Rows.{places_in, nowhere, AreFormed}
+use Rattle.blob_file.specs.Rows.{AreFormed}
 use Rattle.blob_file.proofs.BatchFiles.{batches-joined, few_batches, recovered_of, same_front, shut_batch}
 use Rattle.blob_file.proofs.FlushWrites.{same_all}
 use Rattle.blob_file.proofs.Heads.{short_shut}
 use Rattle.blob_file.proofs.Scans.{batches_end}
 
 -- a file of these batches, with no open one behind them
-pub recovered_ends : (c : List ℕ) (gate : ℕ) (bs : List (List ℕ)) → take gate c ≡ header ++ joined bs → AreBatches bs → is_open (drop gate c) ≡ false → recovered c ≡ bs
+pub recovered_ends : (c : List ℕ) (gate : ℕ) (bs : List (List ℕ)) → take gate c ≡ header ++ joined bs → AreBatches bs → is_open (drop gate c) ≡ false
+    → recovered c ≡ bs
 recovered_ends c gate bs front all shut =
     let r = drop gate c in
     let parts : c ≡ header ++ (joined bs ++ r) = sym (take-append-drop gate c) ∙ ap (λ (l : List ℕ). l ++ r) front ∙ append_assoc header (joined bs) r in
     let m = length (header ++ (joined bs ++ r)) - length bs in
-    let few : length (header ++ (joined bs ++ r)) ≡ length bs + m = omega (arith, few_batches bs all, length-append header (joined bs ++ r), length-append (joined bs) r) in
-    ap recovered parts ∙ recovered_of (joined bs ++ r) ∙ batches-joined bs _ m r few all ∙ ap (λ (l : List (List ℕ)). bs ++ l) (batches_end m r shut) ∙ append-nil bs
+    let few : length (header ++ (joined bs ++ r)) ≡ length bs + m = omega
+    (arith, few_batches bs all, length-append header (joined bs ++ r), length-append (joined bs) r) in
+    ap recovered parts ∙ recovered_of (joined bs ++ r) ∙ batches-joined bs _ m r few all ∙ ap (λ (l : List (List ℕ)). bs ++ l) (batches_end m r shut)
+    ∙ append-nil bs
 
 -- what has the same front, and no open batch behind it, stands for the same
 pub same_end : (gate : ℕ) (file c : List ℕ) → EndsAt gate file → SameBelow gate file c → is_open (drop gate c) ≡ false → recovered c ≡ recovered file
@@ -37,7 +42,8 @@ pub torn_front : (gate : ℕ) (file c : List ℕ) → gate ≤ length file → T
 torn_front gate file c within torn = record { within = omega (arith, torn.no_shorter, within); each = λ i low. torn.below i (omega arith) low }
 
 -- whatever a write of the gate leaves, where none was there or an open one before a batch that is cut short, it stands for the same
-pub gate_torn : (gate : ℕ) (file c : List ℕ) → EndsAt gate file → (gate < length file → slice_index file gate ≡ 1) → Torn gate 1 file c → recovered c ≡ recovered file
+pub gate_torn : (gate : ℕ) (file c : List ℕ) → EndsAt gate file → (gate < length file → slice_index file gate ≡ 1) → Torn gate 1 file c
+    → recovered c ≡ recovered file
 gate_torn gate file c ends was torn =
     let s = torn_front gate file c ends.within torn in
     elim (cases_eq (slice_index c gate) 1) [
@@ -58,7 +64,8 @@ pub rests_shut : (gate : ℕ) (file : List ℕ) → EndsAt gate file → IsShut 
 rests_shut gate file ends shut = record { within = shut.within; front = ends.front; place = ends.place; whole = ends.whole; shut = shut.differs }
 
 -- the gate was written
-pub rests_written : (gate : ℕ) (file c : List ℕ) → EndsAt gate file → (gate < length file → slice_index file gate ≡ 1) → Torn gate 1 file c → Holds c gate (0 ∷ []) → RestsAt gate c
+pub rests_written : (gate : ℕ) (file c : List ℕ) → EndsAt gate file → (gate < length file → slice_index file gate ≡ 1) → Torn gate 1 file c
+    → Holds c gate (0 ∷ []) → RestsAt gate c
 rests_written gate file c ends was torn held =
     let same = gate_torn gate file c ends was torn in
     let s = torn_front gate file c ends.within torn in
@@ -81,7 +88,8 @@ ready_synced g gate disk rests only = record {
 pub recovered_small : (file : List ℕ) → length file ≤ 17 → recovered file ≡ []
 unfolding recovered
 recovered_small file small = elim (cases_Bool (is_made file)) [
-  | inl made ↦ ap (λ (t : Bool). if t then batches (length file) (drop 16 file) else []) made ∙ batches_end (length file) (drop 16 file) (short_shut (drop 16 file) (omega (arith, length-drop 16 file)))
+  | inl made ↦ ap (λ (t : Bool). if t then batches (length file) (drop 16 file) else []) made
+      ∙ batches_end (length file) (drop 16 file) (short_shut (drop 16 file) (omega (arith, length-drop 16 file)))
   | inr other ↦ ap (λ (t : Bool). if t then batches (length file) (drop 16 file) else []) other
 ]
 

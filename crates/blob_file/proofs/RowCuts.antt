@@ -1,13 +1,12 @@
 -- How the bytes of rows are cut into rows, and what they say when more rows stand behind them.
 use Rattle.std.proofs.Common.{◌≡◌, ◌≢◌, ◌⊎◌, inl, inr, refl, sym, ◌∙◌, ap, ap₂, subst, ℕ, zero, suc, ◌+◌, ◌-◌, ◌<◌, ◌≤◌, Bool, true, false}
 use Rattle.std.proofs.Common.{if◌then◌else◌, List, [], ◌∷◌, ◌++◌, length, take, drop, arith, append_assoc, append-nil, length-append, length-take}
-use Rattle.std.proofs.Common.{length-drop, take-append-drop, take_at, drop_at, take_all, Option, Some, None, cond, nat_eq}
+use Rattle.std.proofs.Common.{length-drop, take-append-drop, take_at, drop_at, Option, Some, None, nat_eq}
 use Rattle.std.specs.HashMap.{get, get_by_text}
 use Rattle.std.specs.Map.{update}
 use Rattle.std.specs.Str.{IsUtf8, bytes_eq}
 use Rattle.std.proofs.lemmas.Bool.{cases_Bool, cases_lt, eq-eqb, le-leb, lt-leb, ne_eqb}
-use Rattle.std.proofs.lemmas.List.{take-append-le, nil_from_length}
-use Rattle.std.proofs.lemmas.Str.{IsUtf8-from_is_utf8, is_utf8-from_IsUtf8}
+use Rattle.std.proofs.lemmas.List.{take-append-le}
 use Rattle.blob_file.specs.Format.{joined}
 use Rattle.blob_file.specs.Rows.{row_of, is_name, row_len, cut_rows, rows_in, blobs_of, blobs_in, names_of, names_in, name_len, key_given}
 use Rattle.blob_file.specs.Rows.{size_of_row, total, place_at, placed, told, AreTexts, AreWhole, Learns}
@@ -239,14 +238,16 @@ whole_behind m n a b first all = record {
     append_cancel (k ∷ x) y z e = append_cancel x y z (ap (drop 1) e)
 
 -- the places once the rows behind whole ones are taken too
-pub placed_behind : (first m : ℕ) (a b : List ℕ) (known : ℕ → Option Place) (key : ℕ) → AreWhole m a → placed first (blobs_in (a ++ b)) known key ≡ placed (first + m) (blobs_in b) (placed first (blobs_in a) known) key
+pub placed_behind : (first m : ℕ) (a b : List ℕ) (known : ℕ → Option Place) (key : ℕ) → AreWhole m a
+    → placed first (blobs_in (a ++ b)) known key ≡ placed (first + m) (blobs_in b) (placed first (blobs_in a) known) key
 placed_behind first m a b known key whole =
     let there : first + total (blobs_in a) ≡ first + m = omega (arith, whole.sized) in
     ap (λ (rs : List Row). placed first rs known key) (blobs_in-append a b whole.whole)
     ∙ placed-append first (blobs_in a) (blobs_in b) known key
     ∙ ap (λ (k : ℕ). placed k (blobs_in b) (placed first (blobs_in a) known) key) there
 
-pub told_behind : (m : ℕ) (a b : List ℕ) (known : List ℕ → Option ℕ) (name : List ℕ) → AreWhole m a → told (names_in (a ++ b)) known name ≡ told (names_in b) (told (names_in a) known) name
+pub told_behind : (m : ℕ) (a b : List ℕ) (known : List ℕ → Option ℕ) (name : List ℕ) → AreWhole m a
+    → told (names_in (a ++ b)) known name ≡ told (names_in b) (told (names_in a) known) name
 told_behind m a b known name whole =
     ap (λ (ns : List (List ℕ × Option ℕ)). told ns known name) (names_in-append a b whole.whole) ∙ told-append (names_in a) (names_in b) known name
 
@@ -265,7 +266,8 @@ learns_nil first index = record {
   names = λ name. sym (told_nothing (get_by_text index.names) name);
 }
 
-pub learns-append : (first m : ℕ) (a b : List ℕ) (old mid new : Index) → AreWhole m a → Learns first a old mid → Learns (first + m) b mid new → Learns first (a ++ b) old new
+pub learns-append : (first m : ℕ) (a b : List ℕ) (old mid new : Index) → AreWhole m a → Learns first a old mid → Learns (first + m) b mid new
+    → Learns first (a ++ b) old new
 learns-append first m a b old mid new whole one two = record {
   places = λ key.
       two.places key
@@ -309,7 +311,7 @@ pub whole_name : (e : List ℕ) → IsRow e → is_name (row_of e) ≡ true → 
 unfolding total
 whole_name e is name text = record {
   whole = joined_one e is;
-  texts = subst AreTexts (sym (one_name e is name).1) (is_utf8-from_IsUtf8 (drop 24 e) text, tt);
+  texts = subst AreTexts (sym (one_name e is name).1) (text, tt);
   sized = ap total (one_name e is name).0;
 }
 
@@ -322,7 +324,8 @@ whole_blob e is blob = record {
 }
 
 -- what is told by one row
-pub told_name : (e : List ℕ) (known : List ℕ → Option ℕ) (q : List ℕ) → IsRow e → is_name (row_of e) ≡ true → told (names_in e) known q ≡ update bytes_eq known (drop 24 e) (key_given (row_of e).key) q
+pub told_name : (e : List ℕ) (known : List ℕ → Option ℕ) (q : List ℕ) → IsRow e → is_name (row_of e) ≡ true
+    → told (names_in e) known q ≡ update bytes_eq known (drop 24 e) (key_given (row_of e).key) q
 unfolding told
 told_name e known q is name = ap (λ (ns : List (List ℕ × Option ℕ)). told ns known q) (one_name e is name).1
 
@@ -334,7 +337,8 @@ pub placed_name : (at : ℕ) (e : List ℕ) (known : ℕ → Option Place) (q : 
 unfolding placed
 placed_name at e known q is name = ap (λ (rs : List Row). placed at rs known q) (one_name e is name).0
 
-pub placed_blob : (at : ℕ) (e : List ℕ) (known : ℕ → Option Place) (q : ℕ) → IsRow e → is_name (row_of e) ≡ false → placed at (blobs_in e) known q ≡ update nat_eq known (row_of e).key (Some (place_at at (row_of e))) q
+pub placed_blob : (at : ℕ) (e : List ℕ) (known : ℕ → Option Place) (q : ℕ) → IsRow e → is_name (row_of e) ≡ false
+    → placed at (blobs_in e) known q ≡ update nat_eq known (row_of e).key (Some (place_at at (row_of e))) q
 unfolding placed
 placed_blob at e known q is blob = ap (λ (rs : List Row). placed at rs known q) (one_blob e is blob).0
 
@@ -346,7 +350,7 @@ text_of_first n b within name all =
     let is : is_name (row_of e) ≡ true = ap is_name (first_row_of b within) ∙ name in
     let says : names_in b ≡ naming_of e ∷ names_in (drop (row_len b) b) =
     ap names_of (rows_first b within) ∙ ap (λ (t : Bool). if t then naming_of e ∷ names_in (drop (row_len b) b) else names_in (drop (row_len b) b)) is in
-    IsUtf8-from_is_utf8 (drop 24 (take (row_len b) b)) (subst AreTexts says all.texts).0
+    (subst AreTexts says all.texts).0
 
 pub size_of_first : (n : ℕ) (b : List ℕ) → row_len b ≤ length b → is_name (row_of b) ≡ false → AreWhole n b → size_of_row (row_of b) ≤ n
 unfolding blobs_of total

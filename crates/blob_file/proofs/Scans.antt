@@ -1,17 +1,20 @@
 -- The walk over the batches of a file: what one step finds, and what the end says of the whole.
-use Rattle.std.proofs.Common.{◌≡◌, ◌≢◌, inl, inr, refl, sym, ◌∙◌, ap, ap₂, subst, ℕ, zero, suc, ◌+◌, ◌-◌, ◌/◌, ◌<◌, ◌≤◌, Bool, true, false, if◌then◌else◌, ◌&&◌, List, [], ◌∷◌, ◌++◌, length, take, drop, arith, nat_eq, append_assoc, append-nil, length-append, length-take, length-drop, take-append-drop, take-add, drop-drop, get_or-take, Option, Some, None}
-use Rattle.std.specs.Prelude.{slice_index, IsTrue}
+use Rattle.std.proofs.Common.{◌≡◌, inl, inr, refl, sym, ◌∙◌, ap, ap₂, subst, ℕ, zero, suc, ◌+◌, ◌-◌, ◌<◌, ◌≤◌, Bool, true, false, if◌then◌else◌}
+use Rattle.std.proofs.Common.{List, [], ◌∷◌, ◌++◌, length, take, drop, arith, nat_eq, append_assoc, append-nil, length-append, length-take, length-drop}
+use Rattle.std.proofs.Common.{take-append-drop, take-add, get_or-take, Option, Some, None}
+use Rattle.std.specs.Prelude.{slice_index}
 use Rattle.std.specs.HashMap.{get, get_by_text}
-use Rattle.std.specs.Str.{bytes_eq}
 use Rattle.std.proofs.lemmas.Bool.{cases_Bool, and_parts, eqb-true, leb-true}
 use Rattle.std.proofs.lemmas.Slice.Eq.{bytes_eq-Decides}
 use Rattle.sqlite_disk.specs.Disk.{Holds}
 use Rattle.sqlite_disk.specs.Digest.{digest}
 use Rattle.sqlite_wal.specs.Format.{part}
 use Rattle.sqlite_wal.proofs.PartLemmas.{held_is_part}
-use Rattle.blob_file.specs.Format.{header, number, size_of, head_of, is_open, open_head, batches, recovered, joined, rows_of, is_made, IsBatch, AreBatches, IsSummed, AreSummed}
+use Rattle.blob_file.specs.Format.{header, number, size_of, head_of, is_open, open_head, batches, recovered, joined, rows_of, is_made, IsBatch, AreBatches}
+use Rattle.blob_file.specs.Format.{IsSummed, AreSummed}
 use Rattle.blob_file.specs.Log.{EndsAt, IsSound}
-use Rattle.blob_file.specs.Rows.{blobs_in, blobs_of_batch, named_in, names_in, placed, places_in, nowhere, told, told_in, IsFormed, AreFormed, AreWhole, Knows, Learns}
+use Rattle.blob_file.specs.Rows.{blobs_in, blobs_of_batch, named_in, names_in, placed, places_in, nowhere, told, told_in, IsFormed, AreFormed, AreWhole, Knows}
+use Rattle.blob_file.specs.Rows.{Learns}
 use Rattle.blob_file.specs.declared.index.Index.{Index}
 use Rattle.blob_file.specs.declared.rows.Place.{Place}
 use Rattle.blob_file.proofs.Indexes.{placed_same, told_same}
@@ -39,7 +42,8 @@ read_there file [] at n h whole = ap (λ (k : ℕ). take k (drop at file)) whole
 read_there file (b ∷ bs) at n h whole = sym (held_is_part file (b ∷ bs) at n (h (omega arith)) whole)
 
 -- the part of the file that is the rows of a batch
-pub rows_at : (file : List ℕ) (at : ℕ) (head : Head) → open_head (drop at file) ≡ Some head → part file (at + 25 + head.bodies) head.rows ≡ rows_of (drop at file)
+pub rows_at : (file : List ℕ) (at : ℕ) (head : Head) → open_head (drop at file) ≡ Some head
+    → part file (at + 25 + head.bodies) head.rows ≡ rows_of (drop at file)
 unfolding rows_of
 rows_at file at head found =
     let it = (open_is (drop at file) head found).1 in
@@ -145,10 +149,12 @@ bodies_alone b opens =
     sym (number_front (take (size_of b) b) (drop (size_of b) b) 1 (omega (arith, long, size_least b))) ∙ ap (λ (x : List ℕ). number x 1) (front_again b)
 
 pub formed_alone : (b : List ℕ) → is_open b ≡ true → IsFormed b → IsFormed (take (size_of b) b)
-formed_alone b opens formed = subst (AreWhole (number (take (size_of b) b) 1)) (sym (rows_alone b opens)) (subst (λ (n : ℕ). AreWhole n (rows_of b)) (sym (bodies_alone b opens)) formed)
+formed_alone b opens formed = subst (AreWhole (number (take (size_of b) b) 1)) (sym (rows_alone b opens))
+    (subst (λ (n : ℕ). AreWhole n (rows_of b)) (sym (bodies_alone b opens)) formed)
 
 pub formed_behind : (b : List ℕ) → is_open b ≡ true → IsFormed (take (size_of b) b) → IsFormed b
-formed_behind b opens formed = subst (AreWhole (number b 1)) (rows_alone b opens) (subst (λ (n : ℕ). AreWhole n (rows_of (take (size_of b) b))) (bodies_alone b opens) formed)
+formed_behind b opens formed = subst (AreWhole (number b 1)) (rows_alone b opens)
+    (subst (λ (n : ℕ). AreWhole n (rows_of (take (size_of b) b))) (bodies_alone b opens) formed)
 
 pub formed_push : (bs : List (List ℕ)) (b : List ℕ) → AreFormed bs → IsFormed b → AreFormed (bs ++ b ∷ [])
 formed_push [] b all it = (it, tt)
@@ -159,7 +165,8 @@ formed_next [] b more all = all.0
 formed_next (x ∷ bs) b more all = formed_next bs b more all.1
 
 -- the places of one batch more
-pub places_in-push : (a : ℕ) (bs : List (List ℕ)) (b : List ℕ) (known : ℕ → Option Place) (q : ℕ) → places_in a (bs ++ b ∷ []) known q ≡ placed (a + length (joined bs) + 25) (blobs_of_batch b) (places_in a bs known) q
+pub places_in-push : (a : ℕ) (bs : List (List ℕ)) (b : List ℕ) (known : ℕ → Option Place) (q : ℕ)
+    → places_in a (bs ++ b ∷ []) known q ≡ placed (a + length (joined bs) + 25) (blobs_of_batch b) (places_in a bs known) q
 unfolding places_in joined
 places_in-push a [] b known q =
     let here : a + 25 ≡ a + 0 + 25 = omega arith in
@@ -169,7 +176,8 @@ places_in-push a (x ∷ bs) b known q =
     places_in-push (a + length x) bs b (placed (a + 25) (blobs_of_batch x) known) q
     ∙ ap (λ (k : ℕ). placed k (blobs_of_batch b) (places_in (a + length x) bs (placed (a + 25) (blobs_of_batch x) known)) q) there
 
-told_in-push : (bs : List (List ℕ)) (b : List ℕ) (known : List ℕ → Option ℕ) (q : List ℕ) → told_in (bs ++ b ∷ []) known q ≡ told (names_in (rows_of b)) (told_in bs known) q
+told_in-push : (bs : List (List ℕ)) (b : List ℕ) (known : List ℕ → Option ℕ) (q : List ℕ)
+    → told_in (bs ++ b ∷ []) known q ≡ told (names_in (rows_of b)) (told_in bs known) q
 unfolding told_in
 told_in-push [] b known q = refl
 told_in-push (x ∷ bs) b known q = told_in-push bs b (told (names_in (rows_of x)) known) q
@@ -178,7 +186,8 @@ pub named_in-push : (bs : List (List ℕ)) (b name : List ℕ) → named_in (bs 
 named_in-push bs b name = told_in-push bs b (λ q. None) name
 
 -- what an index knows once it has learned what the rows of one batch more say
-knows_next : (at : ℕ) (bs : List (List ℕ)) (b rows : List ℕ) (old new : Index) → Knows old bs → at ≡ 16 + length (joined bs) → rows ≡ rows_of b → Learns (at + 25) rows old new → Knows new (bs ++ b ∷ [])
+knows_next : (at : ℕ) (bs : List (List ℕ)) (b rows : List ℕ) (old new : Index) → Knows old bs → at ≡ 16 + length (joined bs) → rows ≡ rows_of b
+    → Learns (at + 25) rows old new → Knows new (bs ++ b ∷ [])
 knows_next at bs b rows old new knows place is learns = record {
   places = λ key.
       let there : at + 25 ≡ 16 + length (joined bs) + 25 = omega (arith, place) in
@@ -197,7 +206,8 @@ place_of : (file : List ℕ) (at : ℕ) (known : Index) → (s : StandsTo at fil
 place_of file at known s = omega (arith, ap length s.front, length-append header (joined s.before), length-take at file, s.within)
 
 -- a walk goes on behind an open batch with the sum that it says
-pub stands_next : (file : List ℕ) (at n : ℕ) (known new : Index) → StandsTo at file known → is_open (drop at file) ≡ true → IsSound (drop at file) → n ≡ size_of (drop at file)
+pub stands_next : (file : List ℕ) (at n : ℕ) (known new : Index) → StandsTo at file known → is_open (drop at file) ≡ true → IsSound (drop at file)
+    → n ≡ size_of (drop at file)
     → Learns (at + 25) (rows_of (drop at file)) known new → StandsTo (at + n) file new
 stands_next file at n known new s opens sound size learns =
     let b = take n (drop at file) in
@@ -205,18 +215,22 @@ stands_next file at n known new s opens sound size learns =
     record {
       within = omega (arith, size, open_size (drop at file) opens, length-drop at file, s.within, size_least (drop at file));
       before = s.before ++ b ∷ [];
-      front = take-add at n file ∙ ap (λ (x : List ℕ). x ++ b) s.front ∙ append_assoc header (joined s.before) b ∙ ap (λ (l : List ℕ). header ++ l) (sym (joined-push s.before b));
+      front = take-add at n file ∙ ap (λ (x : List ℕ). x ++ b) s.front ∙ append_assoc header (joined s.before) b
+          ∙ ap (λ (l : List ℕ). header ++ l) (sym (joined-push s.before b));
       whole = all-push s.before b s.whole (subst IsBatch here (batch_there (drop at file) opens));
       summed = summed_push s.before b s.summed (subst IsSummed here (summed_alone (drop at file) opens sound.summed));
       formed = formed_push s.before b s.formed (subst IsFormed here (formed_alone (drop at file) opens sound.formed));
-      knows = knows_next at s.before b (rows_of (drop at file)) known new s.knows (place_of file at known s) (sym (rows_alone (drop at file) opens) ∙ ap rows_of here) learns;
+      knows = knows_next at s.before b (rows_of (drop at file)) known new s.knows (place_of file at known s)
+          (sym (rows_alone (drop at file) opens) ∙ ap rows_of here) learns;
     }
 
 -- the batches so far, and those of the rest
-pub recovered_so_far : (file : List ℕ) (at m : ℕ) (known : Index) → (s : StandsTo at file known) → length file ≡ length s.before + m → recovered file ≡ s.before ++ batches m (drop at file)
+pub recovered_so_far : (file : List ℕ) (at m : ℕ) (known : Index) → (s : StandsTo at file known) → length file ≡ length s.before + m
+    → recovered file ≡ s.before ++ batches m (drop at file)
 recovered_so_far file at m known s e =
     let r = drop at file in
-    let parts : file ≡ header ++ (joined s.before ++ r) = sym (take-append-drop at file) ∙ ap (λ (l : List ℕ). l ++ r) s.front ∙ append_assoc header (joined s.before) r in
+    let parts : file ≡ header ++ (joined s.before ++ r) = sym (take-append-drop at file) ∙ ap (λ (l : List ℕ). l ++ r) s.front
+    ∙ append_assoc header (joined s.before) r in
     ap recovered parts ∙ recovered_of (joined s.before ++ r) ∙ batches-joined s.before _ m r (ap length (sym parts) ∙ e) s.whole
 
 few_so_far : (file : List ℕ) (at : ℕ) (known : Index) → (s : StandsTo at file known) → length s.before + 16 ≤ at
@@ -227,7 +241,8 @@ pub found_all : (file : List ℕ) (at : ℕ) (known : Index) → (s : StandsTo a
 found_all file at known s shut =
     let m = length file - length s.before in
     let few = few_so_far file at known s in
-    recovered_so_far file at m known s (omega (arith, s.within)) ∙ ap (λ (l : List (List ℕ)). s.before ++ l) (batches_end m (drop at file) shut) ∙ append-nil s.before
+    recovered_so_far file at m known s (omega (arith, s.within)) ∙ ap (λ (l : List (List ℕ)). s.before ++ l) (batches_end m (drop at file) shut)
+    ∙ append-nil s.before
 
 pub ends_here : (file : List ℕ) (at : ℕ) (known : Index) → StandsTo at file known → is_open (drop at file) ≡ false → EndsAt at file
 ends_here file at known s shut =
@@ -250,12 +265,14 @@ pub all_known : (file : List ℕ) (at : ℕ) (known : Index) → StandsTo at fil
 all_known file at known s shut = subst (Knows known) (sym (found_all file at known s shut)) s.knows
 
 -- an open batch that isn't sound is one that counts
-pub not_sound : (file : List ℕ) (at : ℕ) (known : Index) → StandsTo at file known → is_open (drop at file) ≡ true → (IsSound (drop at file) → ⊥) → AreSummed (recovered file) → AreFormed (recovered file) → ⊥
+pub not_sound : (file : List ℕ) (at : ℕ) (known : Index) → StandsTo at file known → is_open (drop at file) ≡ true → (IsSound (drop at file) → ⊥)
+    → AreSummed (recovered file) → AreFormed (recovered file) → ⊥
 not_sound file at known s opens differs summed formed =
     let m = length file - length s.before in
     let few = few_so_far file at known s in
     let left : m ≡ suc (m - 1) = omega (arith, open_size (drop at file) opens, size_least (drop at file), length-drop at file, s.within) in
-    let next = recovered_so_far file at m known s (omega (arith, s.within)) ∙ ap (λ (k : ℕ). s.before ++ batches k (drop at file)) left ∙ ap (λ (l : List (List ℕ)). s.before ++ l) (batches_next (m - 1) (drop at file) opens) in
+    let next = recovered_so_far file at m known s (omega (arith, s.within)) ∙ ap (λ (k : ℕ). s.before ++ batches k (drop at file)) left
+    ∙ ap (λ (l : List (List ℕ)). s.before ++ l) (batches_next (m - 1) (drop at file) opens) in
     differs (record {
       summed = summed_behind (drop at file) opens (summed_next s.before _ _ (subst AreSummed next summed));
       formed = formed_behind (drop at file) opens (formed_next s.before _ _ (subst AreFormed next formed));

@@ -1,5 +1,5 @@
 -- That each name stands for a key under which there is a blob.
-use Rattle.std.proofs.Common.{◌≡◌, inl, inr, refl, sym, ◌∙◌, ap, subst, ℕ, true, Bool, List, Option, Some, None, cond, nat_eq}
+use Rattle.std.proofs.Common.{◌≡◌, inl, inr, refl, sym, subst, ℕ, Bool, List, Option, Some, None, cond, nat_eq}
 use Rattle.std.specs.Prelude.{IfSome, IsSome, option_map}
 use Rattle.std.specs.Map.{update}
 use Rattle.std.specs.Str.{bytes_eq}
@@ -8,7 +8,8 @@ use Rattle.blob_file.specs.File.{Content, NamesStand, Same, SameBlobs}
 use Rattle.blob_file.specs.Rows.{Body}
 
 -- for the key if there is one
-for_key : (blobs now : ℕ → Option Body) (key : Option ℕ) → ((k : ℕ) → IsSome (blobs k) → IsSome (now k)) → IfSome key (λ k. IsSome (blobs k)) → IfSome key (λ k. IsSome (now k))
+for_key : (blobs now : ℕ → Option Body) (key : Option ℕ) → ((k : ℕ) → IsSome (blobs k) → IsSome (now k)) → IfSome key (λ k. IsSome (blobs k))
+    → IfSome key (λ k. IsSome (now k))
 for_key blobs now None more stands = stands
 for_key blobs now (Some k) more stands = more k stands
 
@@ -18,7 +19,8 @@ stand_same old new same stand name =
     (for_key old.blob new.blob (old.key name) (λ k some. subst IsSome (sym (same.blobs k)) some) (stand name))
 
 -- a place that is known is that of a blob
-pub has_blob : {X : Type 0} (blob : X → Body) (known : ℕ → Option X) (key : Option ℕ) → IfSome key (λ k. IsSome (known k)) → IfSome key (λ k. IsSome (option_map blob (known k)))
+pub has_blob : {X : Type 0} (blob : X → Body) (known : ℕ → Option X) (key : Option ℕ) → IfSome key (λ k. IsSome (known k))
+    → IfSome key (λ k. IsSome (option_map blob (known k)))
 has_blob blob known None stands = stands
 has_blob {X = X} blob known (Some k) stands = there (known k) stands
   where
@@ -27,8 +29,10 @@ has_blob {X = X} blob known (Some k) stands = there (known k) stands
     there (Some p) some = refl
 
 -- once a name is set
-pub stand_named : (blobs now : ℕ → Option Body) (names later : List ℕ → Option ℕ) (set : List ℕ) (key : Option ℕ) → SameBlobs blobs now → IfSome key (λ k. IsSome (blobs k))
-    → ((q : List ℕ) → later q ≡ update bytes_eq names set key q) → NamesStand (record { blob = blobs; key = names }) → NamesStand (record { blob = now; key = later })
+pub stand_named : (blobs now : ℕ → Option Body) (names later : List ℕ → Option ℕ) (set : List ℕ) (key : Option ℕ) → SameBlobs blobs now
+    → IfSome key (λ k. IsSome (blobs k))
+    → ((q : List ℕ) → later q ≡ update bytes_eq names set key q) → NamesStand (record { blob = blobs; key = names })
+    → NamesStand (record { blob = now; key = later })
 stand_named blobs now names later set key same stands named stand name =
     subst (λ (k : Option ℕ). IfSome k (λ x. IsSome (now x))) (sym (named name))
     (for_key blobs now (cond (bytes_eq set name) key (names name)) (λ k some. subst IsSome (sym (same k)) some) (elim (cases_Bool (bytes_eq set name)) [
@@ -37,7 +41,8 @@ stand_named blobs now names later set key same stands named stand name =
     ]))
 
 -- once a blob is added
-pub stand_added : (blobs now : ℕ → Option Body) (names later : List ℕ → Option ℕ) (key : ℕ) (body : Body) → ((k : ℕ) → now k ≡ update nat_eq blobs key (Some body) k)
+pub stand_added : (blobs now : ℕ → Option Body) (names later : List ℕ → Option ℕ) (key : ℕ) (body : Body)
+    → ((k : ℕ) → now k ≡ update nat_eq blobs key (Some body) k)
     → ((q : List ℕ) → later q ≡ names q) → NamesStand (record { blob = blobs; key = names }) → NamesStand (record { blob = now; key = later })
 stand_added blobs now names later key body added same stand name =
     subst (λ (k : Option ℕ). IfSome k (λ x. IsSome (now x))) (sym (same name)) (for_key blobs now (names name) more (stand name))

@@ -32,11 +32,13 @@ reads_then g a b c s t = record {
 }
 
 -- what was found there, in the file as it was at first
-pub found_here : (file now : List ℕ) (at : ℕ) (found it : Option Head) → now ≡ file → found ≡ open_head (drop at now) → found ≡ it → open_head (drop at file) ≡ it
+pub found_here : (file now : List ℕ) (at : ℕ) (found it : Option Head) → now ≡ file → found ≡ open_head (drop at now) → found ≡ it
+    → open_head (drop at file) ≡ it
 found_here file now at found it same is e = ap (λ (f : List ℕ). open_head (drop at f)) (sym same) ∙ sym is ∙ e
 
 -- why a batch that is read may refuse the file
-pub refuses_batch : {X P Q : Type 0} (clean : Type 0) (file : List ℕ) (before after : ℕ) (r : Result X FileError) (e : FileError) → IsErrAnd r (λ x. x ≡ e) → FailsFor P Q e
+pub refuses_batch : {X P Q : Type 0} (clean : Type 0) (file : List ℕ) (before after : ℕ) (r : Result X FileError) (e : FileError) → IsErrAnd r (λ x. x ≡ e)
+    → FailsFor P Q e
     → (P → clean → AreSummed (recovered file) × AreFormed (recovered file) → ⊥) → (Q → MoreFaults before after) → IfErr r (Refuses clean file before after)
 refuses_batch clean file before after (Ok x) e is fails damaged failed = tt
 refuses_batch {P = P} {Q = Q} clean file before after (Err y) e is fails damaged failed = go y (subst (FailsFor P Q) (sym is) fails)

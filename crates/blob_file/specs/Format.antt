@@ -1,5 +1,7 @@
--- The bytes of a file of blobs: a header, batches, a shut gate. A batch is its gate (1), the lengths of its bodies and of its rows (8 bytes each), the sum of its rows (8), its bodies, its rows.
-use Rattle.std.specs.Prelude.{◌≡◌, ℕ, zero, suc, ◌+◌, ◌==◌, nat_le, Bool, ◌&&◌, ◌||◌, if◌then◌else◌, ⊤, List, [], ◌∷◌, ◌++◌, length, take, drop, slice_index, Option, Some, None}
+-- The bytes of a file of blobs: a header, batches, a shut gate. A batch is its gate (1), the lengths of its bodies and
+-- of its rows (8 bytes each), the sum of its rows (8), its bodies, its rows.
+use Rattle.std.specs.Prelude.{◌≡◌, ℕ, zero, suc, ◌+◌, ◌==◌, nat_le, Bool, ◌&&◌, ◌||◌, if◌then◌else◌, ⊤, List, [], ◌∷◌, ◌++◌, length, take, drop, slice_index}
+use Rattle.std.specs.Prelude.{Option, Some, None}
 use Rattle.std.specs.List.{list_all, zip}
 use Rattle.std.specs.Str.{bytes_eq}
 use Rattle.std.specs.Int.{w64, from_le_bytes, to_le_bytes}

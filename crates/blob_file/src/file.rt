@@ -234,6 +234,7 @@ impl<D: Disk> BlobFile<D> {
             → D.may_leave self.new.log.disk c → Same (content D.Disk self.old) (content_of (recovered c))) }
         ensures opens_again { IsTrue self.old.log.is_whole → IsClean D.Disk self.new.log.disk → (c : List ℕ)
             → D.may_leave self.new.log.disk c → CanOpen c }
+        ensures whole { OnOk result (IsTrue self.old.log.is_whole → IsTrue self.new.log.is_whole) }
         ensures settled { IsSettled D.Disk self.new }
         ensures was_whole { IsTrue self.new.log.is_whole → IsTrue self.old.log.is_whole }
         ensures clean { IsClean D.Disk self.new.log.disk → IsClean D.Disk self.old.log.disk }
@@ -257,6 +258,7 @@ impl<D: Disk> BlobFile<D> {
             → Same (content D.Disk self) (content_of (recovered (D.seen disk)))) }
         ensures durable { IfOk result (λ disk. IsTrue self.log.is_whole → IsClean D.Disk disk → (c : List ℕ)
             → D.may_leave disk c → Same (content D.Disk self) (content_of (recovered c))) }
+        ensures usable { IfOk result (λ disk. IsTrue self.log.is_whole → IsTrue (D.is_usable disk)) }
         ensures same { IfErr result (λ e. IsTrue e.1.log.is_whole → IsClean D.Disk e.1.log.disk
             → Same (content D.Disk self) (content D.Disk e.1)) }
         ensures any_moment { IfErr result (λ e. IsTrue self.log.is_whole → IsClean D.Disk e.1.log.disk → (c : List ℕ)

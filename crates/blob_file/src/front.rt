@@ -68,7 +68,8 @@ pub fn create<D: Disk>(disk: &mut D) -> io::Result<()>
     ensures faults { CountsFault result (D.faults disk.old) (D.faults disk.new) }
     ensures clean { IsClean D.Disk disk.new → IsClean D.Disk disk.old }
     ensures usable { OnOk result (IsTrue (D.is_usable disk.new)) }
-    ensures crash { (c : List ℕ) → D.may_leave disk.new c → (d : List ℕ) × D.may_leave disk.old d × ((c ≡ d) ⊎ (length d ≤ 17 → length c ≤ 17)) }
+    ensures crash { (c : List ℕ) → D.may_leave disk.new c
+        → (d : List ℕ) × D.may_leave disk.old d × ((c ≡ d) ⊎ (length d ≤ 17 → length c ≤ 17)) }
 {
     disk.write_at(0, &NEW_FILE)?;
     disk.sync()

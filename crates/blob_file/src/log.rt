@@ -37,7 +37,8 @@ impl<D: Disk> Log<D> {
         ensures open { IfOk result (λ it. IsOpen D.Disk it.0 × IsTrue it.0.is_whole) }
         ensures moment { IfOk result (λ it. KeepsBatches D.Disk disk it.0.disk) }
         ensures moment_err { IfErr result (λ e. KeepsBatches D.Disk disk e.1) }
-        ensures refused { IfErr result (λ e. Refuses (IsClean D.Disk e.1) (D.seen disk) (D.faults disk) (D.faults e.1) e.0) }
+        ensures refused { IfErr result (λ e. Refuses (IsClean D.Disk e.1) (D.seen disk) (D.faults disk)
+            (D.faults e.1) e.0) }
         ensures kept { IfErr result (λ e. KeepsBytesUnlessFailed D.Disk disk e.1 e.0) }
     {
         let mut disk = disk;
@@ -65,21 +66,21 @@ impl<D: Disk> Log<D> {
         requires open { IsOpen D.Disk self.old }
         requires formed { AreWhole (length bodies.now) rows.now }
         ensures open { IsOpen D.Disk self.new }
-        ensures appended { OnOk result (IsClean D.Disk self.new.disk
-            → recovered (D.seen self.new.disk) ≡ recovered (D.seen self.old.disk) ++ new_batch bodies.now rows.now ∷ []) }
+        ensures appended { OnOk result (IsClean D.Disk self.new.disk → recovered (D.seen self.new.disk)
+            ≡ recovered (D.seen self.old.disk) ++ new_batch bodies.now rows.now ∷ []) }
         ensures whole { OnOk result (IsTrue self.new.is_whole) }
         ensures gate_stays { OnErr result (self.new.gate ≡ self.old.gate) }
         ensures gate { OnOk result (self.new.gate ≡ self.old.gate + 25 + length bodies.now + length rows.now) }
 
         // A crash in it leaves the old batches, or these and the new one.
-        ensures any_moment { IsTrue self.old.is_whole → IsClean D.Disk self.new.disk → (c : List ℕ) → D.may_leave self.new.disk c
-            → IsLeft self.old.gate (D.seen self.old.disk) (new_batch bodies.now rows.now) c }
+        ensures any_moment { IsTrue self.old.is_whole → IsClean D.Disk self.new.disk → (c : List ℕ)
+            → D.may_leave self.new.disk c → IsLeft self.old.gate (D.seen self.old.disk) (new_batch bodies.now rows.now) c }
 
         ensures kept { OnErr result (IsTrue self.new.is_whole → IsClean D.Disk self.new.disk
             → recovered (D.seen self.new.disk) ≡ recovered (D.seen self.old.disk)) }
         ensures was_whole { IsTrue self.new.is_whole → IsTrue self.old.is_whole }
-        ensures refused { IfErr result (AppendFails self.old.is_whole (self.old.gate + 25 + length bodies.now + length rows.now)
-            (D.faults self.old.disk) (D.faults self.new.disk)) }
+        ensures refused { IfErr result (AppendFails self.old.is_whole
+            (self.old.gate + 25 + length bodies.now + length rows.now) (D.faults self.old.disk) (D.faults self.new.disk)) }
         ensures clean { IsClean D.Disk self.new.disk → IsClean D.Disk self.old.disk }
     {
         if !self.is_whole {

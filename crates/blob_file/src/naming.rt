@@ -4,7 +4,8 @@ ghost use Rattle.blob_file.specs.File.{HasNoBlob, IsSettled, Lists, NameFails, N
 ghost use Rattle.blob_file.specs.{File.{content, named, stored}, Rows.{key_given}};
 ghost use Rattle.blob_file.specs.declared.file_error.FileError.TheVariants.{OutOfMemory};
 ghost use Rattle.std.specs.{HashMap.{get, get_by_text}, Map.{update}, Str.{bytes_eq}, String.{string_bytes}};
-ghost use Rattle.std.specs.Prelude.{IfErr, IfNone, IfOk, IfSome, IsSome, List, OnErr, OnOk, OnSome, map, nat_eq, ℕ, ◌≡◌};
+ghost use Rattle.std.specs.Prelude.{IfErr, IfNone, IfOk, IfSome, IsSome, List, OnErr, OnOk, OnSome, map, nat_eq};
+ghost use Rattle.std.specs.Prelude.{ℕ, ◌≡◌};
 
 use crate::file::BlobFile;
 use crate::file_error::FileError;
@@ -57,7 +58,12 @@ impl<D: Disk> BlobFile<D> {
     ///
     /// `NoSuchBlob` if no blob is stored under the key, flushed or held, or it is 0; `OutOfMemory`;
     /// `TooLong` if the name has 4 GiB or more; `Shut` after a flush that failed. Nothing changes.
-    pub fn set_root(&mut self, alloc: Global, name: &str, key: Option<u128>) -> Result<(), FileError>
+    pub fn set_root(
+        &mut self,
+        alloc: Global,
+        name: &str,
+        key: Option<u128>,
+    ) -> Result<(), FileError>
         requires settled { IsSettled D.Disk self.old }
         ensures named { OnOk result ((q : List ℕ) → named self.new q
             ≡ update bytes_eq (named self.old) name.now key q) }

@@ -13,7 +13,8 @@ fn has_shut_gate<D: Disk>(disk: &mut D, gate: usize, len: usize) -> io::Result<b
     requires usable { IsTrue (D.is_usable disk.old) }
     requires len { IsClean D.Disk disk.old → len ≡ length (D.seen disk.old) }
     ensures found { IfOk result (λ shut. IsClean D.Disk disk.new
-        → MatchBool shut (IsShut (D.seen disk.old) gate 1) (gate < length (D.seen disk.old) → slice_index (D.seen disk.old) gate ≡ 1)) }
+        → MatchBool shut (IsShut (D.seen disk.old) gate 1)
+        (gate < length (D.seen disk.old) → slice_index (D.seen disk.old) gate ≡ 1)) }
     ensures faults { CountsFault result (D.faults disk.old) (D.faults disk.new) }
     ensures same { OnlyReads D.Disk disk.old disk.new }
 {
@@ -43,7 +44,8 @@ pub fn shut_gate<D: Disk>(disk: &mut D, gate: usize, len: usize) -> io::Result<(
     ensures same { IsClean D.Disk disk.new → recovered (D.seen disk.new) ≡ recovered (D.seen disk.old) }
     ensures synced { OnOk result (Only (D.seen disk.new) (D.may_leave disk.new)) }
     ensures untouched { IsClean D.Disk disk.new → RestsAt gate (D.seen disk.old) → D.seen disk.new ≡ D.seen disk.old }
-    ensures crash { IsClean D.Disk disk.new → (c : List ℕ) → D.may_leave disk.new c → recovered c ≡ recovered (D.seen disk.old) }
+    ensures crash { IsClean D.Disk disk.new → (c : List ℕ) → D.may_leave disk.new c
+        → recovered c ≡ recovered (D.seen disk.old) }
     ensures faults { CountsFault result (D.faults disk.old) (D.faults disk.new) }
     ensures clean { IsClean D.Disk disk.new → IsClean D.Disk disk.old }
     ensures usable { OnOk result (IsTrue (D.is_usable disk.new)) }

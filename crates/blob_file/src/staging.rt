@@ -1,10 +1,12 @@
 //! The writes of a flush behind the shut gate, which a crash leaves without effect.
 
-ghost use Rattle.blob_file.specs.{Appending.{IsPlan, PlanFails}, Format.{head_bytes, number, recovered}, Log.{IsReady, IsStaged, SameBelow, batch_behind, batch_of}};
+ghost use Rattle.blob_file.specs.{Appending.{IsPlan, PlanFails}, Format.{head_bytes, number, recovered}};
+ghost use Rattle.blob_file.specs.Log.{IsReady, IsStaged, SameBelow, batch_behind, batch_of};
 ghost use Rattle.sqlite_disk.specs.{Digest.{digest}, Disk.{CountsFault}};
 ghost use Rattle.sqlite_wal.specs.Reads.{IsClean};
 ghost use Rattle.std.specs.Option.{SomeIff};
-ghost use Rattle.std.specs.Prelude.{IfErr, IfOk, IsTrue, OnOk, length, slice_index, take, [], ◌++◌, ◌+◌, ◌-◌, ◌<◌, ◌^◌, ◌∷◌, ◌≡◌};
+ghost use Rattle.std.specs.Prelude.{IfErr, IfOk, IsTrue, OnOk, length, slice_index, take, []};
+ghost use Rattle.std.specs.Prelude.{◌++◌, ◌+◌, ◌-◌, ◌<◌, ◌^◌, ◌∷◌, ◌≡◌};
 
 use crate::file_error::FileError;
 use crate::head::HEAD;

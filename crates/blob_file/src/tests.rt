@@ -1,6 +1,9 @@
-use crate::laws::append_crash_and_open;
+ghost use Rattle.blob_file.specs.File.{IsSettled};
+ghost use Rattle.std.specs.Prelude.{IfOk, IsTrue};
+
+use crate::laws::flush_crash_and_open;
 use crate::log::Log;
-use crate::{BlobFile, FileError, FoundBlob};
+use crate::{BlobFile, Counts, FileError, FoundBlob, ListedBlob};
 use sqlite_disk::{Disk, Fuse, Memory};
 use std::alloc::Global;
 use std::test::Fail;
@@ -8,16 +11,35 @@ use std::test::Fail;
 /// A file without a batch.
 const NEW: &[u8] = b"pagable blobs 2\n\0";
 
-/// A row: the blob under the key 7 has no child keys and four bytes.
-const ROW: &[u8] = b"\x07\0\0\0\0\0\0\0\0\0\0\0\0\0\0\0\0\0\0\0\x04\0\0\0";
-
 /// A file with one batch of one blob, "body" under the key 7.
-const ONE: &[u8] =
-    b"pagable blobs 2\n\x01\x04\0\0\0\0\0\0\0\x18\0\0\0\0\0\0\0\x0dT\x08\x17+M7\xb8body\x07\0\0\0\0\0\0\0\0\0\0\0\0\0\0\0\0\0\0\0\x04\0\0\0\0";
+const ONE: &[u8] = b"pagable blobs 2\n\x01\x04\0\0\0\0\0\0\0\x18\0\0\0\0\0\0\0\x0dT\x08\x17+M7\xb8\
+    body\x07\0\0\0\0\0\0\0\0\0\0\0\0\0\0\0\0\0\0\0\x04\0\0\0\0";
 
 /// The same, but that the row tells of five bytes, with its right sum.
 const ODD: &[u8] =
-    b"pagable blobs 2\n\x01\x04\0\0\0\0\0\0\0\x18\0\0\0\0\0\0\0\xc6B\x08\xa1\x90\x5cj5body\x07\0\0\0\0\0\0\0\0\0\0\0\0\0\0\0\0\0\0\0\x05\0\0\0\0";
+    b"pagable blobs 2\n\x01\x04\0\0\0\0\0\0\0\x18\0\0\0\0\0\0\0\xc6B\x08\xa1\x90\x5cj5\
+    body\x07\0\0\0\0\0\0\0\0\0\0\0\0\0\0\0\0\0\0\0\x05\0\0\0\0";
+
+/// A file with one batch of this blob, and of the name "main", which stands for its key.
+const NAMED: &[u8] = b"pagable blobs 2\n\x01\x04\0\0\0\0\0\0\x004\0\0\0\0\0\0\0=%\xd9\xc5\xd2I6\xff\
+    body\x07\0\0\0\0\0\0\0\0\0\0\0\0\0\0\0\0\0\0\0\x04\0\0\0\
+    \x07\0\0\0\0\0\0\0\0\0\0\0\0\0\0\0\xff\xff\xff\xff\x04\0\0\0main\0";
+
+/// A batch that takes the name away, and the gate behind it.
+const TAKEN: &[u8] = b"\x01\0\0\0\0\0\0\0\0\x1c\0\0\0\0\0\0\0\xbf'U\xa5\x11\xa3\x9e;\
+    \0\0\0\0\0\0\0\0\0\0\0\0\0\0\0\0\xff\xff\xff\xff\x04\0\0\0main\0";
+
+/// The file with the name, but that the name isn't UTF-8, with its right sum.
+const NOT_TEXT: &[u8] =
+    b"pagable blobs 2\n\x01\x04\0\0\0\0\0\0\x004\0\0\0\0\0\0\0t\xf0}\xe7\xb2.\x99v\
+    body\x07\0\0\0\0\0\0\0\0\0\0\0\0\0\0\0\0\0\0\0\x04\0\0\0\
+    \x07\0\0\0\0\0\0\0\0\0\0\0\0\0\0\0\xff\xff\xff\xff\x04\0\0\0ma\xffn\0";
+
+/// The file with the name, but that its row tells of five bytes of a name, with its right sum.
+const CUT_NAME: &[u8] =
+    b"pagable blobs 2\n\x01\x04\0\0\0\0\0\0\x004\0\0\0\0\0\0\0\xea\xf3\xba\xc1\xbe\x99v\xf7\
+    body\x07\0\0\0\0\0\0\0\0\0\0\0\0\0\0\0\0\0\0\0\x04\0\0\0\
+    \x07\0\0\0\0\0\0\0\0\0\0\0\0\0\0\0\xff\xff\xff\xff\x05\0\0\0main\0";
 
 /// Whether this is the blob "body", without child keys.
 fn is_body(found: &Option<FoundBlob>) -> bool {
@@ -116,18 +138,44 @@ fn rows_that_tell_of_other_bodies_are_refused(rt: HostRuntime) -> Result<(), Fai
     Ok(())
 }
 
-#[test]
-fn a_batch_is_added(rt: HostRuntime) -> Result<(), Fail> {
-    let alloc = rt.alloc();
-    let file = Memory::new(alloc);
-    let mut log = match Log::open(alloc, file) {
-        Ok((log, _index)) => log,
+/// A file over this disk.
+fn open_file<D: Disk + Drop>(alloc: Global, disk: D) -> Result<BlobFile<D>, Fail>
+    requires { IsTrue (D.is_usable disk) }
+    ensures { IfOk result (λ it. IsSettled D.Disk it × IsTrue it.log.is_whole) }
+{
+    match BlobFile::open(alloc, disk) {
+        Ok(file) => Ok(file),
+        Err((error, _)) => Err(error.into()),
+    }
+}
+
+/// Whether the listed names are these.
+fn are_names(names: &[String], wanted: &[&str]) -> bool {
+    names.len() == wanted.len()
+        && names
+            .iter()
+            .zip(wanted.iter())
+            .all(|(name, it)| name.as_str() == *it)
+}
+
+/// Whether a flush of a blob and a name over a disk that stops after so many calls, and a crash,
+/// leave both or none; None if the disk stops before the file is open.
+fn leaves_both_or_none(alloc: Global, calls: u64) -> Result<Option<bool>, Fail> {
+    let Ok(mut file) = BlobFile::open(alloc, Fuse::new(Memory::new(alloc), calls)) else {
+        return Ok(None);
+    };
+    file.add(7, 0, b"body")?;
+    file.set_root(alloc, "main", Some(7))?;
+    let (acknowledged, again) = flush_crash_and_open(alloc, file);
+    let again = match again {
+        Ok(again) => again,
         Err((error, _)) => return Err(error.into()),
     };
-    log.append(alloc, b"body", ROW)?;
-    assert_eq!(rt; log.disk.bytes(), ONE);
-    assert_eq!(rt; log.gate, 69);
-    Ok(())
+    let found = again.log.disk.inner().bytes();
+    Ok(Some(match again.root("main") {
+        Some(key) => key == 7 && found == NAMED && again.find(7).is_some(),
+        None => !acknowledged && found.starts_with(NEW) && again.find(7).is_none(),
+    }))
 }
 
 #[test]
@@ -135,15 +183,8 @@ fn each_call_may_be_the_last(rt: HostRuntime) -> Result<(), Fail> {
     let alloc = rt.alloc();
     let mut opened = 0u64;
     for calls in 0..24u64 {
-        let disk = Fuse::new(Memory::new(alloc), calls);
-        if let Ok((log, _index)) = Log::open(alloc, disk) {
-            let (acknowledged, again) = append_crash_and_open(alloc, log, b"body", ROW);
-            let again = match again {
-                Ok((again, _index)) => again,
-                Err((error, _)) => return Err(error.into()),
-            };
-            let found = again.disk.inner().bytes();
-            assert!(rt; found == ONE || (!acknowledged && found.starts_with(NEW)));
+        if let Some(right) = leaves_both_or_none(alloc, calls)? {
+            assert!(rt; right);
             opened = opened.saturating_add(1);
         }
     }
@@ -152,12 +193,93 @@ fn each_call_may_be_the_last(rt: HostRuntime) -> Result<(), Fail> {
 }
 
 #[test]
-fn a_blob_is_held_and_flushed(rt: HostRuntime) -> Result<(), Fail> {
+fn a_name_is_held_flushed_and_taken_away(rt: HostRuntime) -> Result<(), Fail> {
     let alloc = rt.alloc();
-    let mut file = match BlobFile::open(alloc, Memory::new(alloc)) {
-        Ok(file) => file,
+    let mut file = open_file(alloc, Memory::new(alloc))?;
+    assert!(rt; file.set_root(alloc, "main", Some(7)) == Err(FileError::NoSuchBlob));
+    file.add(7, 0, b"body")?;
+    file.set_root(alloc, "main", Some(7))?;
+    assert!(rt; file.root("main") == Some(7));
+    assert_eq!(rt; file.log.disk.bytes(), NEW);
+    file.flush(alloc)?;
+    assert_eq!(rt; file.log.disk.bytes(), NAMED);
+    file.set_root(alloc, "main", None)?;
+    assert!(rt; file.root("main").is_none());
+    let disk = match file.close(alloc) {
+        Ok(disk) => disk,
         Err((error, _)) => return Err(error.into()),
     };
+    let mut all = NAMED[..97].to_vec(alloc)?;
+    all.extend_from_slice(TAKEN)?;
+    assert_eq!(rt; disk.bytes(), all.as_slice());
+    let again = open_file(alloc, disk)?;
+    assert!(rt; again.root("main").is_none());
+    assert!(rt; again.find(7).is_some());
+    Ok(())
+}
+
+#[test]
+fn names_are_found_again_and_listed(rt: HostRuntime) -> Result<(), Fail> {
+    let alloc = rt.alloc();
+    let mut disk = Memory::new(alloc);
+    disk.write_at(0, NAMED)?;
+    let mut file = open_file(alloc, disk)?;
+    assert!(rt; file.root("main") == Some(7));
+    file.set_root(alloc, "other", Some(7))?;
+    file.set_root(alloc, "main", Some(7))?;
+    let names = file.root_names(alloc)?;
+    assert!(rt; are_names(&names, &["main", "other"]));
+    assert!(rt; file.set_root(alloc, "main", Some(0)) == Err(FileError::NoSuchBlob));
+    assert!(rt; file.root("main") == Some(7));
+    Ok(())
+}
+
+#[test]
+fn names_that_cannot_be_are_refused(rt: HostRuntime) -> Result<(), Fail> {
+    let alloc = rt.alloc();
+    for bytes in [NOT_TEXT, CUT_NAME] {
+        let (left, gate) = open_bytes(alloc, bytes)?;
+        assert_eq!(rt; left.as_slice(), bytes);
+        assert!(rt; gate == Err(FileError::Damaged));
+    }
+    Ok(())
+}
+
+#[test]
+fn blobs_are_listed_and_counted(rt: HostRuntime) -> Result<(), Fail> {
+    let alloc = rt.alloc();
+    let mut disk = Memory::new(alloc);
+    disk.write_at(0, NAMED)?;
+    let mut file = open_file(alloc, disk)?;
+    file.add(9, 1, b"0123456789abcdefmore")?;
+    let listed = file.list(alloc)?;
+    let wanted = [
+        ListedBlob {
+            key: 7,
+            children: 0,
+            bytes: 4,
+        },
+        ListedBlob {
+            key: 9,
+            children: 1,
+            bytes: 4,
+        },
+    ];
+    assert!(rt; listed.as_slice() == wanted.as_slice());
+    let counts = Counts {
+        blobs: 2,
+        names: 1,
+        flushed_bytes: 97,
+        held_bytes: 20,
+    };
+    assert!(rt; file.counts() == counts);
+    Ok(())
+}
+
+#[test]
+fn a_blob_is_held_and_flushed(rt: HostRuntime) -> Result<(), Fail> {
+    let alloc = rt.alloc();
+    let mut file = open_file(alloc, Memory::new(alloc))?;
     file.add(7, 0, b"body")?;
     assert_eq!(rt; file.log.disk.bytes(), NEW);
     let held = file.fetch(alloc, 7)?;
@@ -175,10 +297,7 @@ fn a_blob_is_found_again(rt: HostRuntime) -> Result<(), Fail> {
     let alloc = rt.alloc();
     let mut disk = Memory::new(alloc);
     disk.write_at(0, ONE)?;
-    let mut file = match BlobFile::open(alloc, disk) {
-        Ok(file) => file,
-        Err((error, _)) => return Err(error.into()),
-    };
+    let mut file = open_file(alloc, disk)?;
     let found = file.fetch(alloc, 7)?;
     assert!(rt; is_body(&found));
     assert!(rt; file.find(8).is_none());

@@ -1,7 +1,7 @@
 use crate::file_blobs::FileBlobs;
 use crate::stats::Stats;
 use pagable_codec::{Env, KeyHash};
-use pagable_core::{PagableData, PagableStorage, Sha256Key, WeighHash};
+use pagable_core::{PagableData, PagableStorage, Roots, Sha256Key, WeighHash};
 use pagable_flavors::{DataKey, Error};
 use sqlite_disk::{Disk, Fuse, Memory};
 use std::alloc::Global;
@@ -166,5 +166,40 @@ fn a_disk_that_stops_leaves_all_of_a_flush_or_none(rt: HostRuntime) -> Result<()
         }
     }
     assert!(rt; cut > 3 && whole > 3);
+    Ok(())
+}
+
+#[test]
+fn a_name_stands_for_its_blob_once_it_is_flushed(rt: HostRuntime) -> Result<(), Fail> {
+    let alloc = rt.alloc();
+    let mut blobs = open_bytes::<Sha256Key>(alloc, b"")?;
+    let key = blobs.store_data(alloc, blob_with(alloc, b"body", &[])?)?;
+    blobs.set_root(alloc, "main", Some(key))?;
+    assert!(rt; blobs.root("main")? == Some(key));
+    blobs.flush()?;
+    blobs.set_root(alloc, "late", Some(key))?;
+    let bytes = blobs.into_disk().bytes().to_vec(alloc)?;
+    let mut again = open_bytes::<Sha256Key>(alloc, &bytes)?;
+    assert!(rt; again.root("main")? == Some(key));
+    assert!(rt; again.root("late")? == None);
+    let names = again.root_names(alloc)?;
+    assert_eq!(rt; names.len(), 1);
+    assert_eq!(rt; names[0].as_str(), "main");
+    again.set_root(alloc, "main", None)?;
+    assert!(rt; again.root("main")? == None);
+    Ok(())
+}
+
+#[test]
+fn a_name_stands_for_no_blob_that_is_missing(rt: HostRuntime) -> Result<(), Fail> {
+    let alloc = rt.alloc();
+    let mut blobs = open_bytes::<Sha256Key>(alloc, b"")?;
+    let Some(key) = DataKey::new(BODY) else {
+        return Err(Fail::from("a key of 0"));
+    };
+    assert!(rt; blobs.set_root(alloc, "main", Some(key)).err() == Some(Error::NoData(key)));
+    assert!(rt; blobs.root("main")? == None);
+    blobs.close();
+    assert!(rt; blobs.set_root(alloc, "main", None).err() == Some(Error::Closed));
     Ok(())
 }

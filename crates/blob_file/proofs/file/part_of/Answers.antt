@@ -1,4 +1,4 @@
-use Rattle.std.proofs.Common.{◌≡◌, ap, ℕ, ◌+◌, ◌-◌, List, take, drop, arith}
+use Rattle.std.proofs.Common.{◌≡◌, ap, ℕ, ◌+◌, ◌-◌, take, drop, arith}
 use Rattle.sqlite_wal.specs.Format.{part}
 use Rattle.blob_file.proofs.file.part_of.Goals as goal
 

@@ -1,4 +1,4 @@
-use Rattle.std.proofs.Common.{◌≡◌, sym, ◌∙◌, ap, ℕ, ◌<◌, List, arith}
+use Rattle.std.proofs.Common.{sym, ◌∙◌, ap, ℕ, List, arith}
 use Rattle.std.specs.Str.{bytes_eq}
 use Rattle.blob_file.specs.Format.{header}
 use Rattle.blob_file.proofs.Fronts.{front_held}

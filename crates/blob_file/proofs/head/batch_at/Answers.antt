@@ -1,4 +1,4 @@
-use Rattle.std.proofs.Common.{◌≡◌, ◌∙◌, drop, length, ◌-◌, ◌<◌, arith, ap, length-drop}
+use Rattle.std.proofs.Common.{◌∙◌, arith, length-drop}
 use Rattle.blob_file.proofs.Heads.{head_seen, no_head}
 use Rattle.blob_file.proofs.head.batch_at.Goals as goal
 

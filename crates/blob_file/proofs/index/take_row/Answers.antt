@@ -1,11 +1,13 @@
-use Rattle.std.proofs.Common.{◌≡◌, ◌∙◌, sym, ap, ap₂, subst, refl, false, ℕ, ◌+◌, ◌-◌, ◌<◌, ◌≤◌, List, length, take, drop, length-drop, Option, Some, nat_eq, arith}
+use Rattle.std.proofs.Common.{◌≡◌, ◌∙◌, sym, ap, ap₂, subst, ℕ, ◌-◌, List, length, take, length-drop, Some, nat_eq}
+use Rattle.std.proofs.Common.{arith}
 use Rattle.std.specs.HashMap.{get, get_by_text}
 use Rattle.std.specs.Map.{update}
 use Rattle.std.specs.Str.{IsUtf8, bytes_eq}
 use Rattle.blob_file.specs.Rows.{is_name, key_given, place_at, row_len, row_of, size_of_row, AreWhole}
 use Rattle.blob_file.specs.declared.rows.Row.{Row}
 use Rattle.blob_file.proofs.Failures.{fails_for_err}
-use Rattle.blob_file.proofs.RowCuts.{first_row, first_row_of, not_short, placed_blob, placed_name, row_len-least, size_of_first, text_of_first, told_blob, told_name, whole_blob, whole_name}
+use Rattle.blob_file.proofs.RowCuts.{first_row, first_row_of, not_short, placed_blob, placed_name, row_len-least, size_of_first, text_of_first, told_blob}
+use Rattle.blob_file.proofs.RowCuts.{told_name, whole_blob, whole_name}
 use Rattle.blob_file.proofs.index.take_row.Goals as goal
 
 pub returns-in_default-clause-refused : goal.returns-in_default-clause-refused

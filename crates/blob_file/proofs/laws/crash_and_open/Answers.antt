@@ -13,5 +13,6 @@ returns-clause-found g c =
 pub returns-clause-not_refused : goal.returns-clause-not_refused
 returns-clause-not_refused g c =
     if_err_both c.open.result (λ e refuses keeps clean.
-    not_refused _ _ _ _ _ clean (rest_opens g.D.Disk _ c.requires.settled c.requires.whole (c.crash.ensures.clean (keeps.clean clean)) _ c.crash.ensures.left) refuses)
+    not_refused _ _ _ _ _ clean (rest_opens g.D.Disk _ c.requires.settled c.requires.whole
+    (c.crash.ensures.clean (keeps.clean clean)) _ c.crash.ensures.left) refuses)
     c.open.ensures.refused c.open.ensures.moment_err

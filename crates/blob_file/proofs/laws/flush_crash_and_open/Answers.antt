@@ -1,4 +1,4 @@
-use Rattle.std.proofs.Common.{◌⊎◌, inl, inr, sym, ◌∙◌}
+use Rattle.std.proofs.Common.{inl, inr, sym, ◌∙◌}
 use Rattle.blob_file.proofs.Reopens.{if_err_both, if_ok_both, not_refused, on_ok_at}
 use Rattle.blob_file.proofs.Standing.{stand_same}
 use Rattle.blob_file.proofs.laws.flush_crash_and_open.Goals as goal

@@ -1,6 +1,6 @@
-use Rattle.std.proofs.Common.{◌≡◌, ◌⊎◌, inl, inr, refl, sym, ◌∙◌, ap, subst, ℕ, ◌≤◌, true, false, not, List, length}
+use Rattle.std.proofs.Common.{inr, sym, ◌∙◌, ap, subst}
 use Rattle.std.proofs.lemmas.Bool.{both_ways, or_right}
-use Rattle.blob_file.specs.Format.{is_unmade, recovered}
+use Rattle.blob_file.specs.Format.{recovered}
 use Rattle.blob_file.specs.Log.{RestsAt}
 use Rattle.blob_file.specs.Rows.{Knows}
 use Rattle.blob_file.proofs.Repairs.{created, new_rests, none_formed, none_summed, ready_synced, recovered_new, recovered_small, rests_made, unmade_small}
@@ -32,7 +32,8 @@ returns-clause-opens g c = record {
       let unmade = sym (c.in_ok-was_never_made.ensures.found (c.create.ensures.clean clean)) ∙ c.if-not-branch.false in
       subst (Knows c.args.index.now) (sym (recovered_small _ (unmade_small _ unmade))) c.requires.empty;
   kind = λ clean. or_right _ _ (sym (c.in_ok-was_never_made.ensures.found (c.create.ensures.clean clean)) ∙ c.if-not-branch.false);
-  untouched = λ clean place rests. absurd (both_ways _ (c.requires.other (c.was_never_made.ensures.same.clean (c.create.ensures.clean clean))) (rests_made place _ rests));
+  untouched = λ clean place rests. absurd (both_ways _ (c.requires.other (c.was_never_made.ensures.same.clean (c.create.ensures.clean clean)))
+      (rests_made place _ rests));
 }
 
 pub returns-clause-moment : goal.returns-clause-moment

@@ -1,6 +1,6 @@
-use Rattle.std.proofs.Common.{◌≡◌, ◌∙◌, sym, ap, ◌+◌, ◌<◌, ◌≤◌, take, drop, drop-drop, arith}
+use Rattle.std.proofs.Common.{◌≡◌, ◌∙◌, sym, ap, ◌+◌, take, drop, drop-drop, arith}
 use Rattle.std.proofs.lemmas.List.{drop-take}
-use Rattle.blob_file.specs.Rows.{name_len, row_len, row_of}
+use Rattle.blob_file.specs.Rows.{row_len, row_of}
 use Rattle.blob_file.proofs.Indexes.{row_of_front}
 use Rattle.blob_file.proofs.RowCuts.{row_len-is, row_len-least}
 use Rattle.blob_file.proofs.rows.split_row.Goals as goal
@@ -10,7 +10,8 @@ returns-then-rows-lt-ROW-clause-short c = omega (arith, row_len-least c.args.row
 
 pub returns-then-rest-len-clause-short : goal.returns-then-rest-len-clause-short
 returns-then-rest-len-clause-short c =
-    let row : row_of c.args.rows.now ≡ c.read_row-row.result = sym (c.read_row-row.ensures ∙ ap row_of c.split_at.ensures.front ∙ row_of_front c.args.rows.now) in
+    let row : row_of c.args.rows.now ≡ c.read_row-row.result = sym (c.read_row-row.ensures ∙ ap row_of c.split_at.ensures.front
+    ∙ row_of_front c.args.rows.now) in
     omega (arith, row_len-is _ _ row, c.name_len-len.ensures)
 
 pub returns-clause-row : goal.returns-clause-row

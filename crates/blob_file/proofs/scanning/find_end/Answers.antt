@@ -1,4 +1,4 @@
-use Rattle.std.proofs.Common.{◌≡◌, refl, sym, ◌∙◌, subst, ℕ, ◌+◌, ◌≤◌, List, drop, arith}
+use Rattle.std.proofs.Common.{refl, sym, ◌∙◌, subst, ℕ, ◌+◌, ◌≤◌, List, drop, arith}
 use Rattle.sqlite_disk.specs.Disk.{MoreFaults}
 use Rattle.blob_file.specs.Format.{rows_of}
 use Rattle.blob_file.specs.Log.{IsSound}
@@ -47,17 +47,20 @@ loop-head-preserved g c =
 pub returns-clause-ends : goal.returns-clause-ends
 returns-clause-ends g c clean =
     let inv = c.loop-head.invariant in
-    ends_here _ _ _ (inv.stands (c.batch_at.ensures.same.clean clean)) (open_not _ (found_here _ _ _ _ _ inv.same.seen (c.in_ok-head.ensures.found clean) c.in_default.is))
+    ends_here _ _ _ (inv.stands (c.batch_at.ensures.same.clean clean))
+    (open_not _ (found_here _ _ _ _ _ inv.same.seen (c.in_ok-head.ensures.found clean) c.in_default.is))
 
 pub returns-clause-summed : goal.returns-clause-summed
 returns-clause-summed g c clean =
     let inv = c.loop-head.invariant in
-    all_summed _ _ _ (inv.stands (c.batch_at.ensures.same.clean clean)) (open_not _ (found_here _ _ _ _ _ inv.same.seen (c.in_ok-head.ensures.found clean) c.in_default.is))
+    all_summed _ _ _ (inv.stands (c.batch_at.ensures.same.clean clean))
+    (open_not _ (found_here _ _ _ _ _ inv.same.seen (c.in_ok-head.ensures.found clean) c.in_default.is))
 
 pub returns-clause-formed : goal.returns-clause-formed
 returns-clause-formed g c clean =
     let inv = c.loop-head.invariant in
-    all_formed _ _ _ (inv.stands (c.batch_at.ensures.same.clean clean)) (open_not _ (found_here _ _ _ _ _ inv.same.seen (c.in_ok-head.ensures.found clean) c.in_default.is))
+    all_formed _ _ _ (inv.stands (c.batch_at.ensures.same.clean clean))
+    (open_not _ (found_here _ _ _ _ _ inv.same.seen (c.in_ok-head.ensures.found clean) c.in_default.is))
 
 pub returns-clause-knows : goal.returns-clause-knows
 returns-clause-knows g c clean =

@@ -1,4 +1,4 @@
-use Rattle.std.proofs.Common.{◌≡◌, ◌∙◌, ◌<◌, length, take_at, arith}
+use Rattle.std.proofs.Common.{◌∙◌, ◌<◌, length, take_at, arith}
 use Rattle.blob_file.proofs.Scans.{read_there}
 use Rattle.blob_file.proofs.scanning.read_part.Goals as goal
 

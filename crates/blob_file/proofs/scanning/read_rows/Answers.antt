@@ -1,4 +1,4 @@
-use Rattle.std.proofs.Common.{◌≡◌, ◌∙◌, sym, ap, drop}
+use Rattle.std.proofs.Common.{◌∙◌, sym, ap}
 use Rattle.sqlite_disk.specs.Digest.{digest}
 use Rattle.blob_file.proofs.Scans.{rows_at, sum_at}
 use Rattle.blob_file.proofs.scanning.read_rows.Goals as goal

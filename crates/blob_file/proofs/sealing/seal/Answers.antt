@@ -1,4 +1,4 @@
-use Rattle.std.proofs.Common.{◌≡◌, inl, inr, sym, ◌∙◌, ap, subst, ◌+◌, ◌<◌, ◌≤◌, [], ◌∷◌, length, arith}
+use Rattle.std.proofs.Common.{inl, inr, sym, ◌∙◌, ap, subst, ◌+◌, arith}
 use Rattle.std.proofs.lemmas.Result.{on_ok_weaker}
 use Rattle.blob_file.specs.Format.{recovered}
 use Rattle.blob_file.specs.Log.{RestsAt}
@@ -37,7 +37,8 @@ returns-clause-acknowledged g c =
     on_ok_weaker c.sync-2.result (λ _ clean.
     let first = c.sync.ensures.clean (c.write_at.ensures.clean (c.sync-2.ensures.clean clean)) in
     let torn = rw c.sync.ensures.seen at c.write_at.ensures.others in
-    ap recovered c.sync-2.ensures.seen ∙ (gate_opened c.args.gate _ _ (c.requires.ready first).rests (c.requires.staged first) torn (c.in_ok-write_at.ensures.written (omega arith))).0) c.sync-2.ensures.durable
+    ap recovered c.sync-2.ensures.seen ∙ (gate_opened c.args.gate _ _ (c.requires.ready first).rests (c.requires.staged first) torn
+    (c.in_ok-write_at.ensures.written (omega arith))).0) c.sync-2.ensures.durable
 
 pub returns-clause-ready : goal.returns-clause-ready
 returns-clause-ready g c =
@@ -45,7 +46,8 @@ returns-clause-ready g c =
     let first = c.sync.ensures.clean (c.write_at.ensures.clean (c.sync-2.ensures.clean clean)) in
     let torn = rw c.sync.ensures.seen at c.write_at.ensures.others in
     let more = gate_opened c.args.gate _ _ (c.requires.ready first).rests (c.requires.staged first) torn (c.in_ok-write_at.ensures.written (omega arith)) in
-    ready_synced g.D.Disk _ _ (subst (RestsAt _) (sym c.sync-2.ensures.seen) more.1) (λ left may. durable left may ∙ sym c.sync-2.ensures.seen)) c.sync-2.ensures.durable
+    ready_synced g.D.Disk _ _ (subst (RestsAt _) (sym c.sync-2.ensures.seen) more.1)
+    (λ left may. durable left may ∙ sym c.sync-2.ensures.seen)) c.sync-2.ensures.durable
 
 pub returns-in_err-sync-clause-below : goal.returns-in_err-sync-clause-below
 returns-in_err-sync-clause-below g c clean left may =

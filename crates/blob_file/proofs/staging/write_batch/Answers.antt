@@ -1,4 +1,4 @@
-use Rattle.std.proofs.Common.{◌≡◌, ◌∙◌, ◌+◌, ◌<◌, ◌≤◌, arith}
+use Rattle.std.proofs.Common.{◌∙◌, ◌+◌, arith}
 use Rattle.std.proofs.lemmas.Result.{on_ok_weaker}
 use Rattle.blob_file.proofs.BatchWrites.{Wrote, staged, batch_written}
 use Rattle.blob_file.proofs.FlushWrites.{kept_behind, ready_behind, same_all, torn_behind}
@@ -6,7 +6,8 @@ use Rattle.blob_file.proofs.staging.write_batch.Goals as goal
 
 pub returns-in_err-write_at-clause-ready : goal.returns-in_err-write_at-clause-ready
 returns-in_err-write_at-clause-ready g c clean =
-    ready_behind g.D.Disk c.args.gate _ _ _ _ (omega arith) (c.requires.ready (c.write_at.ensures.clean clean)) c.write_at.ensures.others c.write_at.ensures.crash
+    ready_behind g.D.Disk c.args.gate _ _ _ _ (omega arith) (c.requires.ready
+    (c.write_at.ensures.clean clean)) c.write_at.ensures.others c.write_at.ensures.crash
 
 pub returns-in_err-write_at-clause-same : goal.returns-in_err-write_at-clause-same
 returns-in_err-write_at-clause-same g c clean =
@@ -14,14 +15,16 @@ returns-in_err-write_at-clause-same g c clean =
 
 pub returns-in_err-write_at-2-clause-ready : goal.returns-in_err-write_at-2-clause-ready
 returns-in_err-write_at-2-clause-ready g c clean =
-    let first = ready_behind g.D.Disk c.args.gate _ _ _ _ (omega arith) (c.requires.ready (c.write_at.ensures.clean (c.write_at-2.ensures.clean clean))) c.write_at.ensures.others c.write_at.ensures.crash in
+    let first = ready_behind g.D.Disk c.args.gate _ _ _ _ (omega arith)
+    (c.requires.ready (c.write_at.ensures.clean (c.write_at-2.ensures.clean clean))) c.write_at.ensures.others c.write_at.ensures.crash in
     ready_behind g.D.Disk c.args.gate _ _ _ _ (omega arith) first c.write_at-2.ensures.others c.write_at-2.ensures.crash
 
 pub returns-in_err-write_at-2-clause-same : goal.returns-in_err-write_at-2-clause-same
 returns-in_err-write_at-2-clause-same g c clean =
     let was = c.requires.ready (c.write_at.ensures.clean (c.write_at-2.ensures.clean clean)) in
     let first = ready_behind g.D.Disk c.args.gate _ _ _ _ (omega arith) was c.write_at.ensures.others c.write_at.ensures.crash in
-    kept_behind c.args.gate _ _ _ _ (omega arith) first.rests c.write_at-2.ensures.others ∙ kept_behind c.args.gate _ _ _ _ (omega arith) was.rests c.write_at.ensures.others
+    kept_behind c.args.gate _ _ _ _ (omega arith) first.rests c.write_at-2.ensures.others
+    ∙ kept_behind c.args.gate _ _ _ _ (omega arith) was.rests c.write_at.ensures.others
 
 pub returns-clause-staged : goal.returns-clause-staged
 returns-clause-staged g c =
@@ -69,7 +72,9 @@ returns-clause-same g c clean =
     let was = c.requires.ready (c.write_at.ensures.clean (c.write_at-2.ensures.clean (c.write_at-3.ensures.clean clean))) in
     let first = ready_behind g.D.Disk c.args.gate _ _ _ _ (omega arith) was c.write_at.ensures.others c.write_at.ensures.crash in
     let second = ready_behind g.D.Disk c.args.gate _ _ _ _ (omega arith) first c.write_at-2.ensures.others c.write_at-2.ensures.crash in
-    kept_behind c.args.gate _ _ _ _ (omega arith) second.rests c.write_at-3.ensures.others ∙ kept_behind c.args.gate _ _ _ _ (omega arith) first.rests c.write_at-2.ensures.others ∙ kept_behind c.args.gate _ _ _ _ (omega arith) was.rests c.write_at.ensures.others
+    kept_behind c.args.gate _ _ _ _ (omega arith) second.rests c.write_at-3.ensures.others
+    ∙ kept_behind c.args.gate _ _ _ _ (omega arith) first.rests c.write_at-2.ensures.others
+    ∙ kept_behind c.args.gate _ _ _ _ (omega arith) was.rests c.write_at.ensures.others
 
 pub returns-in_err-write_at-clause-below : goal.returns-in_err-write_at-clause-below
 returns-in_err-write_at-clause-below g c clean =

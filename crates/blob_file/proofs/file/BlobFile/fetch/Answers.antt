@@ -1,4 +1,4 @@
-use Rattle.std.proofs.Common.{◌≡◌, ◌⊎◌, inl, inr, sym, ◌∙◌, ℕ, ◌+◌, ◌-◌, ◌<◌, ◌≤◌, ap, List, length, arith}
+use Rattle.std.proofs.Common.{inl, inr, sym, ◌∙◌, ℕ, ap, List, length, arith}
 use Rattle.blob_file.proofs.Placing.{all_here}
 use Rattle.blob_file.proofs.file.BlobFile.fetch.Goals as goal
 

@@ -1,4 +1,4 @@
-use Rattle.std.proofs.Common.{◌≡◌, ◌⊎◌, inl, inr, refl, sym, ◌∙◌, ap, ap₂, subst, ℕ, ◌+◌, ◌<◌, ◌≤◌, ◌^◌, List, [], ◌∷◌, ◌++◌, length, arith, nat_eq}
+use Rattle.std.proofs.Common.{◌≡◌, inl, refl, sym, ◌∙◌, ap, ap₂, subst, ℕ, ◌+◌, ◌<◌, ◌^◌, List, [], ◌∷◌, ◌++◌, length, arith, nat_eq}
 use Rattle.std.specs.Prelude.{option_map}
 use Rattle.std.specs.HashMap.{get}
 use Rattle.std.proofs.lemmas.Bool.Decides.{nat_tests}
@@ -8,7 +8,7 @@ use Rattle.blob_file.specs.Format.{recovered}
 use Rattle.blob_file.specs.Log.{IsLeft, new_batch}
 use Rattle.blob_file.specs.Rows.{AreWhole, named_in, nowhere, places_in}
 use Rattle.blob_file.proofs.Flushing.{held_content, here, idle_content, left_content, left_opens, rest_kept, rest_opens, same_batches}
-use Rattle.blob_file.proofs.Settling.{body_of, flushed_names, flushed_places, idle_names, idle_places, idle_rows, idle_stored, kept_stored}
+use Rattle.blob_file.proofs.Settling.{body_of, flushed_names, flushed_places, idle_names, idle_places, idle_rows, kept_stored}
 use Rattle.blob_file.proofs.file.BlobFile.flush.Goals as goal
 
 pub returns-then-is_empty-clause-flushed : goal.returns-then-is_empty-clause-flushed
@@ -38,7 +38,8 @@ returns-in_err-append-clause-same g c whole clean =
     let below = (c.append.ensures.any_moment first clean _ (g.met.D.Disk.seen_may_stay c.append.new.self.disk)).below in
     record {
       blobs = λ key.
-          ap (λ (k : ℕ). option_map (body_of (body_bytes (g.D.Disk.seen c.append.new.self.disk) it.bodies.items (k + 25))) (get nat_eq it.index.places key)) c.in_err-append.ensures.gate_stays
+          ap (λ (k : ℕ). option_map (body_of (body_bytes (g.D.Disk.seen c.append.new.self.disk) it.bodies.items (k + 25)))
+          (get nat_eq it.index.places key)) c.in_err-append.ensures.gate_stays
           ∙ kept_stored _ _ _ it.log.gate _ (here g.D.Disk it s first was) (omega (arith, rests.within)) below key;
       names = λ name. refl;
     }
@@ -49,7 +50,8 @@ returns-in_err-append-clause-any_moment g c whole clean left may =
     let few : length it.bodies.items < 2 ^ 64 = omega (arith, c.deref.type_inv.0, ap (λ (l : List ℕ). length l) c.deref.ensures.value) in
     let short : length it.rows.items < 2 ^ 64 = omega (arith, c.deref-2.type_inv.0, ap (λ (l : List ℕ). length l) c.deref-2.ensures.value) in
     left_content g.D.Disk it c.requires.settled whole (c.append.ensures.clean clean) few short left
-    (subst (λ (b : List ℕ). IsLeft it.log.gate (g.D.Disk.seen it.log.disk) b left) (ap₂ new_batch c.deref.ensures.value c.deref-2.ensures.value) (c.append.ensures.any_moment whole clean left may))
+    (subst (λ (b : List ℕ). IsLeft it.log.gate (g.D.Disk.seen it.log.disk) b left) (ap₂ new_batch c.deref.ensures.value c.deref-2.ensures.value)
+    (c.append.ensures.any_moment whole clean left may))
 
 pub returns-in_err-append-clause-opens_again : goal.returns-in_err-append-clause-opens_again
 returns-in_err-append-clause-opens_again g c whole clean left may =
@@ -61,7 +63,8 @@ returns-clause-any_moment g c whole clean left may =
     let few : length it.bodies.items < 2 ^ 64 = omega (arith, c.deref.type_inv.0, ap (λ (l : List ℕ). length l) c.deref.ensures.value) in
     let short : length it.rows.items < 2 ^ 64 = omega (arith, c.deref-2.type_inv.0, ap (λ (l : List ℕ). length l) c.deref-2.ensures.value) in
     left_content g.D.Disk it c.requires.settled whole (c.append.ensures.clean clean) few short left
-    (subst (λ (b : List ℕ). IsLeft it.log.gate (g.D.Disk.seen it.log.disk) b left) (ap₂ new_batch c.deref.ensures.value c.deref-2.ensures.value) (c.append.ensures.any_moment whole clean left may))
+    (subst (λ (b : List ℕ). IsLeft it.log.gate (g.D.Disk.seen it.log.disk) b left) (ap₂ new_batch c.deref.ensures.value c.deref-2.ensures.value)
+    (c.append.ensures.any_moment whole clean left may))
 
 pub returns-clause-opens_again : goal.returns-clause-opens_again
 returns-clause-opens_again g c whole clean left may =
@@ -73,7 +76,8 @@ returns-clause-flushed g c whole clean =
     let few : length it.bodies.items < 2 ^ 64 = omega (arith, c.deref.type_inv.0, ap (λ (l : List ℕ). length l) c.deref.ensures.value) in
     let short : length it.rows.items < 2 ^ 64 = omega (arith, c.deref-2.type_inv.0, ap (λ (l : List ℕ). length l) c.deref-2.ensures.value) in
     held_content g.D.Disk it c.requires.settled whole (c.append.ensures.clean clean) few short _
-    (c.in_ok-append.ensures.appended clean ∙ ap₂ (λ (b r : List ℕ). recovered (g.D.Disk.seen it.log.disk) ++ new_batch b r ∷ []) c.deref.ensures.value c.deref-2.ensures.value)
+    (c.in_ok-append.ensures.appended clean ∙ ap₂ (λ (b r : List ℕ). recovered
+    (g.D.Disk.seen it.log.disk) ++ new_batch b r ∷ []) c.deref.ensures.value c.deref-2.ensures.value)
 
 pub returns-clause-settled : goal.returns-clause-settled
 returns-clause-settled g c =
@@ -88,13 +92,15 @@ returns-clause-settled g c =
           let first = c.append.ensures.was_whole whole in
           let was = c.append.ensures.clean clean in
           let old = (s.open_log.ready first was).rests in
-          let grown = c.in_ok-append.ensures.appended clean ∙ ap₂ (λ (b r : List ℕ). recovered (g.D.Disk.seen it.log.disk) ++ new_batch b r ∷ []) c.deref.ensures.value c.deref-2.ensures.value in
+          let grown = c.in_ok-append.ensures.appended clean ∙ ap₂ (λ (b r : List ℕ). recovered
+          (g.D.Disk.seen it.log.disk) ++ new_batch b r ∷ []) c.deref.ensures.value c.deref-2.ensures.value in
           s.places first was q ∙ flushed_places _ _ _ _ q old.place few short ∙ ap (λ (l : List (List ℕ)). places_in 16 l nowhere q) (sym grown)
           ∙ sym (idle_places _ _ _ q c.clear-2.ensures.items);
       names = λ whole clean name.
           let first = c.append.ensures.was_whole whole in
           let was = c.append.ensures.clean clean in
-          let grown = c.in_ok-append.ensures.appended clean ∙ ap₂ (λ (b r : List ℕ). recovered (g.D.Disk.seen it.log.disk) ++ new_batch b r ∷ []) c.deref.ensures.value c.deref-2.ensures.value in
+          let grown = c.in_ok-append.ensures.appended clean ∙ ap₂ (λ (b r : List ℕ). recovered
+          (g.D.Disk.seen it.log.disk) ++ new_batch b r ∷ []) c.deref.ensures.value c.deref-2.ensures.value in
           s.names first was name ∙ flushed_names _ it.bodies.items it.rows.items name few short ∙ ap (λ (l : List (List ℕ)). named_in l name) (sym grown)
           ∙ sym (idle_names _ _ name c.clear-2.ensures.items);
     }

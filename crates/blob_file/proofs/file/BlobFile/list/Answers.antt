@@ -1,4 +1,4 @@
-use Rattle.std.proofs.Common.{refl, ◌+◌, ◌<◌, ◌≤◌, length, arith}
+use Rattle.std.proofs.Common.{refl, arith}
 use Rattle.blob_file.specs.File.{body_now}
 use Rattle.blob_file.proofs.Flushing.{here}
 use Rattle.blob_file.proofs.Listings.{lists_blobs}
@@ -14,5 +14,6 @@ returns-clause-each g c =
     lists_blobs (body_now g.D.Disk it) it.index.places listed.items unique all λ key p found.
     record {
       children = refl;
-      bytes = as_long (g.D.Disk.seen it.log.disk) it.bodies.items it.log.gate p (omega (arith, rests.within)) (here g.D.Disk it c.requires.settled whole clean key p found);
+      bytes = as_long (g.D.Disk.seen it.log.disk) it.bodies.items it.log.gate p (omega (arith, rests.within))
+          (here g.D.Disk it c.requires.settled whole clean key p found);
     }) c.list_places.ensures.all c.list_places.ensures.unique

@@ -1,4 +1,4 @@
-use Rattle.std.proofs.Common.{◌≡◌, sym, ◌∙◌, ap, ℕ, List, length, subst}
+use Rattle.std.proofs.Common.{sym, ◌∙◌, ap, ℕ, List, length, subst}
 use Rattle.blob_file.specs.Rows.{AreFormed, AreWhole, Knows, named_in, stored_in}
 use Rattle.blob_file.proofs.Settling.{idle_names, idle_places, idle_rows, idle_stored}
 use Rattle.blob_file.proofs.file.BlobFile.open.Goals as goal

@@ -1,7 +1,7 @@
-use Rattle.std.proofs.Common.{◌≡◌, refl, sym, ◌∙◌, ap, ap₂, subst, ℕ, ◌+◌, ◌-◌, ◌<◌, ◌≤◌, List, [], ◌∷◌, ◌++◌, length, arith}
+use Rattle.std.proofs.Common.{refl, sym, ◌∙◌, ap, ap₂, subst, ℕ, List, [], ◌∷◌, ◌++◌, length, arith}
 use Rattle.std.specs.Prelude.{slice_index}
 use Rattle.std.proofs.lemmas.List.{length_push}
-use Rattle.blob_file.specs.Format.{number, recovered, AreSummed}
+use Rattle.blob_file.specs.Format.{number, AreSummed}
 use Rattle.blob_file.specs.Log.{IsReady}
 use Rattle.blob_file.specs.Rows.{AreFormed}
 use Rattle.blob_file.proofs.FlushWrites.{same_all}
@@ -42,7 +42,8 @@ returns-in_err-seal-clause-any_moment g c whole clean left may =
     let staged = c.seal.ensures.clean clean in
     let planned = c.in_ok-plan.ensures.planned in
     let is = is_new _ _ _ _ _ _ (c.in_ok-write_batch.ensures.batch staged) (c.deref.ensures.value ∙ planned.head) (c.deref-2.ensures.value ∙ planned.tail) in
-    left_sealed _ _ _ _ _ (c.write_batch.ensures.same staged) is (new_sound _ _ (omega (arith, planned.fits)) (omega (arith, planned.fits)) planned.sum c.requires.formed)
+    left_sealed _ _ _ _ _ (c.write_batch.ensures.same staged) is (new_sound _ _ (omega (arith, planned.fits))
+    (omega (arith, planned.fits)) planned.sum c.requires.formed)
     (c.write_batch.ensures.below staged) (c.seal.ensures.below clean left may) (c.seal.ensures.any_moment clean left may)
 
 pub returns-clause-any_moment : goal.returns-clause-any_moment
@@ -50,7 +51,8 @@ returns-clause-any_moment g c whole clean left may =
     let staged = c.seal.ensures.clean clean in
     let planned = c.in_ok-plan.ensures.planned in
     let is = is_new _ _ _ _ _ _ (c.in_ok-write_batch.ensures.batch staged) (c.deref.ensures.value ∙ planned.head) (c.deref-2.ensures.value ∙ planned.tail) in
-    left_sealed _ _ _ _ _ (c.write_batch.ensures.same staged) is (new_sound _ _ (omega (arith, planned.fits)) (omega (arith, planned.fits)) planned.sum c.requires.formed)
+    left_sealed _ _ _ _ _ (c.write_batch.ensures.same staged) is (new_sound _ _ (omega (arith, planned.fits))
+    (omega (arith, planned.fits)) planned.sum c.requires.formed)
     (c.write_batch.ensures.below staged) (c.seal.ensures.below clean left may) (c.seal.ensures.any_moment clean left may)
 
 pub returns-clause-appended : goal.returns-clause-appended
@@ -67,7 +69,8 @@ returns-clause-open g c = record {
       let staged = c.seal.ensures.clean clean in
       let planned = c.in_ok-plan.ensures.planned in
       let is = is_new _ _ _ _ _ _ (c.in_ok-write_batch.ensures.batch staged) (c.deref.ensures.value ∙ planned.head) (c.deref-2.ensures.value ∙ planned.tail) in
-      subst (λ (k : ℕ). IsReady g.D.Disk k c.seal.new.disk) (next_gate _ _ _ _ (c.in_ok-write_batch.ensures.staged staged) is ∙ sym planned.end) (c.in_ok-seal.ensures.ready clean);
+      subst (λ (k : ℕ). IsReady g.D.Disk k c.seal.new.disk) (next_gate _ _ _ _ (c.in_ok-write_batch.ensures.staged staged) is ∙ sym planned.end)
+      (c.in_ok-seal.ensures.ready clean);
   summed = λ _ clean.
       let staged = c.seal.ensures.clean clean in
       let planned = c.in_ok-plan.ensures.planned in
