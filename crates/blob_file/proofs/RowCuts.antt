@@ -7,6 +7,7 @@ use Rattle.std.specs.Map.{update}
 use Rattle.std.specs.Str.{IsUtf8, bytes_eq}
 use Rattle.std.proofs.lemmas.Bool.{cases_Bool, cases_lt, eq-eqb, le-leb, lt-leb, ne_eqb}
 use Rattle.std.proofs.lemmas.List.{take-append-le}
+use Rattle.std.proofs.lemmas.Str.{IsUtf8-from_is_utf8, is_utf8-from_IsUtf8}
 use Rattle.blob_file.specs.Format.{joined}
 use Rattle.blob_file.specs.Rows.{row_of, is_name, row_len, cut_rows, rows_in, blobs_of, blobs_in, names_of, names_in, name_len, key_given}
 use Rattle.blob_file.specs.Rows.{size_of_row, total, place_at, placed, told, AreTexts, AreWhole, Learns}
@@ -311,7 +312,7 @@ pub whole_name : (e : List ℕ) → IsRow e → is_name (row_of e) ≡ true → 
 unfolding total
 whole_name e is name text = record {
   whole = joined_one e is;
-  texts = subst AreTexts (sym (one_name e is name).1) (text, tt);
+  texts = subst AreTexts (sym (one_name e is name).1) (is_utf8-from_IsUtf8 (drop 24 e) text, tt);
   sized = ap total (one_name e is name).0;
 }
 
@@ -350,7 +351,7 @@ text_of_first n b within name all =
     let is : is_name (row_of e) ≡ true = ap is_name (first_row_of b within) ∙ name in
     let says : names_in b ≡ naming_of e ∷ names_in (drop (row_len b) b) =
     ap names_of (rows_first b within) ∙ ap (λ (t : Bool). if t then naming_of e ∷ names_in (drop (row_len b) b) else names_in (drop (row_len b) b)) is in
-    (subst AreTexts says all.texts).0
+    IsUtf8-from_is_utf8 (drop 24 (take (row_len b) b)) (subst AreTexts says all.texts).0
 
 pub size_of_first : (n : ℕ) (b : List ℕ) → row_len b ≤ length b → is_name (row_of b) ≡ false → AreWhole n b → size_of_row (row_of b) ≤ n
 unfolding blobs_of total
