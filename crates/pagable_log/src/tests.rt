@@ -88,12 +88,10 @@ fn a_body_is_its_child_keys_and_its_bytes(rt: HostRuntime) -> Result<(), Fail> {
     blobs.store_data(alloc, blob_with(alloc, b"over", &[BODY])?)?;
     blobs.flush()?;
     let disk = blobs.into_disk();
-    assert_eq!(rt; &disk.bytes()[41..45], b"body".as_slice());
-    assert_eq!(rt;
-        &disk.bytes()[45..61],
-        b"\xad\x4c\xf3\x4b\x09\x1d\xad\x6f\xd6\xa6\xc6\x59\x5e\xc5\x2c\x45".as_slice()
-    );
-    assert_eq!(rt; &disk.bytes()[61..65], b"over".as_slice());
+    assert!(rt; disk.bytes().get(41..45) == Some(b"body".as_slice()));
+    let child = b"\xad\x4c\xf3\x4b\x09\x1d\xad\x6f\xd6\xa6\xc6\x59\x5e\xc5\x2c\x45".as_slice();
+    assert!(rt; disk.bytes().get(45..61) == Some(child));
+    assert!(rt; disk.bytes().get(61..65) == Some(b"over".as_slice()));
     Ok(())
 }
 
@@ -104,7 +102,10 @@ fn another_body_under_the_key_is_a_fault(rt: HostRuntime) -> Result<(), Fail> {
     let key = blobs.store_data(alloc, blob_with(alloc, b"body", &[])?)?;
     blobs.flush()?;
     let mut bytes = blobs.into_disk().bytes().to_vec(alloc)?;
-    bytes[41] = b'B';
+    let Some(first) = bytes.get_mut(41) else {
+        return Err(Fail::from("a short file"));
+    };
+    *first = b'B';
     let mut again = open_bytes::<Sha256Key>(alloc, &bytes)?;
     assert!(rt; again.fetch_data_blocking(alloc, key).err() == Some(Error::Storage(2)));
     assert_eq!(rt; again.failures(), 1);
@@ -146,7 +147,7 @@ fn a_closed_storage_has_no_blobs(rt: HostRuntime) -> Result<(), Fail> {
 #[test]
 fn a_disk_that_stops_leaves_all_of_a_flush_or_none(rt: HostRuntime) -> Result<(), Fail> {
     let alloc = rt.alloc();
-    let (mut cut, mut whole) = (0, 0);
+    let (mut was_cut, mut was_whole) = (false, false);
     for calls in 0..24 {
         let disk = Fuse::new(Memory::new(alloc), calls);
         let Ok(mut blobs) = FileBlobs::<Plain<Sha256Key>, Fuse<Memory>>::over(alloc, disk) else {
@@ -160,12 +161,12 @@ fn a_disk_that_stops_leaves_all_of_a_flush_or_none(rt: HostRuntime) -> Result<()
         assert_eq!(rt; again.contains(body), again.contains(over));
         assert!(rt; again.contains(body) || flushed.is_err());
         if flushed.is_ok() {
-            whole += 1;
+            was_whole = true;
         } else {
-            cut += 1;
+            was_cut = true;
         }
     }
-    assert!(rt; cut > 3 && whole > 3);
+    assert!(rt; was_cut && was_whole);
     Ok(())
 }
 
