@@ -9,7 +9,7 @@ use Rattle.sqlite_wal.proofs.PartLemmas.{same_parts, length-part, part_above, sl
 use Rattle.sqlite_disk.specs.declared.Disk.{Ghosts}
 use Rattle.sqlite_disk.specs.Disk.{Holds, Torn, Follows}
 use Rattle.blob_file.specs.Format.{header, number, size_of, recovered, joined, IsBatch, AreBatches}
-use Rattle.blob_file.specs.Log.{RestsAt, SameBelow, IsReady, IsStaged, batch_behind}
+use Rattle.blob_file.specs.Log.{RestsAt, SameBelow, IsReady, IsStaged, StaysReady, batch_behind}
 use Rattle.blob_file.proofs.BatchFiles.{kept, kept_shut, same_front, grown, size_least}
 
 -- a write behind the gate leaves what is below it
@@ -131,20 +131,24 @@ rests_kept gate file c rests s =
       shut = λ bad. rests.shut (sym (s.each gate (omega arith)) ∙ bad);
     }
 
--- a write above the gate leaves the file ready
-pub ready_behind : {D : Type 0} (g : Ghosts D) (gate at len : ℕ) (old new : D) → gate < at → IsReady g gate old → Torn at len (g.seen old) (g.seen new)
-    → Follows (Torn at len) (g.may_leave old) (g.may_leave new) → IsReady g gate new
-ready_behind g gate at len old new above ready torn follows =
-    let first = torn_behind (gate + 1) at len (g.seen old) (g.seen old) (g.seen new) (omega arith)
-    (same_all (gate + 1) (g.seen old) (omega (arith, ready.rests.within))) torn in
-    record {
-      rests = rests_kept gate (g.seen old) (g.seen new) ready.rests first;
-      crash = λ c left.
-          let s = behind (gate + 1) at len (g.seen old) (g.may_leave old) (g.may_leave new) (omega arith) ready.crash follows c left in
-          record { within = s.within; each = λ i low. s.each i low ∙ sym (first.each i low) };
-    }
+-- nothing was written
+pub stays_not : {D : Type 0} (g : Ghosts D) (gate : ℕ) (disk : D) → IsReady g gate disk → StaysReady g gate disk disk
+stays_not g gate disk ready = record { ready = ready; same = refl; below = same_all (gate + 1) (g.seen disk) (omega (arith, ready.rests.within)) }
 
--- and what it stands for stays
-pub kept_behind : (gate at len : ℕ) (file c : List ℕ) → gate < at → RestsAt gate file → Torn at len file c → recovered c ≡ recovered file
-kept_behind gate at len file c above rests torn =
-    kept gate file c rests (torn_behind (gate + 1) at len file file c (omega arith) (same_all (gate + 1) file (omega (arith, rests.within))) torn)
+-- a write above the gate leaves the file ready, and what it stands for
+pub stays_behind : {D : Type 0} (g : Ghosts D) (gate at len : ℕ) (first old new : D) → gate < at → StaysReady g gate first old
+    → Torn at len (g.seen old) (g.seen new)
+    → Follows (Torn at len) (g.may_leave old) (g.may_leave new) → StaysReady g gate first new
+stays_behind g gate at len first old new above s torn follows =
+    let here = torn_behind (gate + 1) at len (g.seen old) (g.seen old) (g.seen new) (omega arith)
+    (same_all (gate + 1) (g.seen old) (omega (arith, s.ready.rests.within))) torn in
+    record {
+      ready = record {
+        rests = rests_kept gate (g.seen old) (g.seen new) s.ready.rests here;
+        crash = λ c left.
+            let it = behind (gate + 1) at len (g.seen old) (g.may_leave old) (g.may_leave new) (omega arith) s.ready.crash follows c left in
+            record { within = it.within; each = λ i low. it.each i low ∙ sym (here.each i low) };
+      };
+      same = kept gate (g.seen old) (g.seen new) s.ready.rests here ∙ s.same;
+      below = torn_behind (gate + 1) at len (g.seen first) (g.seen old) (g.seen new) (omega arith) s.below torn;
+    }

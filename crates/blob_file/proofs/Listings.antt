@@ -1,19 +1,25 @@
 -- What is listed of a map: each key once, and no other.
+use Rattle.std.proofs.Common.{Bool, List, Option, None, Some, ap, append-nil, arith, inl, inr, length, map, nat_eq, refl, subst, sym, true, zero, suc}
+use Rattle.std.proofs.Common.{ℕ, [], ◌++◌, ◌∙◌, ◌∷◌, ◌≡◌}
+use Rattle.std.specs.Bool.{Decides}
+use Rattle.std.specs.Cmp.{IsEquivalence, unsigned_Decides}
+use Rattle.std.specs.Cmp.Lexicographic.{nat_list_eq_equiv}
+use Rattle.std.specs.HashMap.{HashMap, IsUnique, get, get_by_text, hash_map_len, keys}
+use Rattle.std.specs.List.{AllByRecursion, Contains, IsDistinct, list_any}
+use Rattle.std.specs.Prelude.{IsSome, IsSomeAnd, String, false, option_map, string_bytes, string_eq, ◌||◌}
+use Rattle.std.specs.Set.{is_member}
+use Rattle.std.specs.Str.{bytes_eq}
+use Rattle.std.proofs.lemmas.Bool.{cases_Bool}
+use Rattle.std.proofs.lemmas.Cmp.{nat_eq_equiv}
+use Rattle.std.proofs.lemmas.Map.Entries.{length-keys_of}
+use Rattle.std.proofs.lemmas.Map.Made.{AllPairs-from_IsDistinct, IsDistinct-from_AllPairs, is_member-Decides, is_some-lookup, length-from_same_keys}
+use Rattle.std.proofs.lemmas.Map.Views.{Contains-from_any, hash_map_contains_key_iff, hash_map_get_iff, list_any-from_Contains}
+use Rattle.std.proofs.lemmas.Slice.Eq.{bytes_eq-Decides}
 use Rattle.blob_file.specs.File.{IsListedAs, Lists, ListsBlobs, listed_entry}
 use Rattle.blob_file.specs.Rows.{Body}
 use Rattle.blob_file.specs.declared.listing.ListedBlob.{ListedBlob}
 use Rattle.blob_file.specs.declared.rows.Place.{Place}
 use Rattle.blob_file.proofs.Placing.{AllKnown}
-use Rattle.std.proofs.{Common.{Bool, List, Option, None, Some, ap, append-nil, arith, inl, inr, length, map, nat_eq, refl, subst, sym, true, zero, suc, ℕ, [], ◌++◌, ◌∙◌, ◌∷◌, ◌≡◌}, lemmas.{Bool.{cases_Bool}, Cmp.nat_eq_equiv, Map.{Entries.length-keys_of, Made.{AllPairs-from_IsDistinct, IsDistinct-from_AllPairs, is_member-Decides, is_some-lookup, length-from_same_keys}}, Map.Views.{Contains-from_any, hash_map_contains_key_iff, hash_map_get_iff, list_any-from_Contains}, Slice.Eq.bytes_eq-Decides}}
-use Rattle.std.specs.{
-  Bool.Decides,
-  Cmp.{IsEquivalence, Lexicographic.nat_list_eq_equiv, unsigned_Decides},
-  HashMap.{HashMap, IsUnique, get, get_by_text, hash_map_len, keys},
-  List.{AllByRecursion, Contains, IsDistinct, list_any},
-  Prelude.{IsSome, IsSomeAnd, String, false, option_map, string_bytes, string_eq, ◌||◌},
-  Set.is_member,
-  Str.bytes_eq,
-}
 
 -- a test of each text's bytes
 any_of_bytes : {A : Type 0} (p : List ℕ → Bool) (texts : List (String A)) → list_any (λ t. p (string_bytes t)) texts ≡ list_any p (map string_bytes texts)

@@ -8,7 +8,7 @@ use Rattle.sqlite_disk.specs.declared.Disk.{Ghosts}
 use Rattle.sqlite_disk.specs.Digest.{digest}
 use Rattle.sqlite_wal.specs.Format.{part}
 use Rattle.blob_file.specs.Format.{head_bytes, number, size_of, rows_of, recovered, IsSummed}
-use Rattle.blob_file.specs.Log.{SameBelow, IsReady, IsStaged, IsOldOrNew, IsLeft, IsSound, batch_behind, batch_of, new_batch}
+use Rattle.blob_file.specs.Log.{SameBelow, IsStaged, StaysReady, IsOldOrNew, IsLeft, IsSound, batch_behind, batch_of, new_batch}
 use Rattle.blob_file.specs.Rows.{AreWhole}
 use Rattle.blob_file.proofs.BatchFiles.{kept, less_below}
 use Rattle.blob_file.proofs.FlushWrites.{same_then, length_behind}
@@ -61,12 +61,12 @@ new_sound bodies rows few short fits whole = record {
       (subst (λ (n : ℕ). AreWhole n rows) (sym (bodies_size bodies rows few)) whole);
 }
 
--- a crash of a file that is ready
-pub left_ready : {D : Type 0} (g : Ghosts D) (gate : ℕ) (old new : D) (batch : List ℕ) → recovered (g.seen new) ≡ recovered (g.seen old)
-    → SameBelow (gate + 1) (g.seen old) (g.seen new) → IsReady g gate new → (c : List ℕ) → g.may_leave new c → IsLeft gate (g.seen old) batch c
-left_ready g gate old new batch same below ready c left = record {
-  stands = inl (kept gate (g.seen new) c ready.rests (ready.crash c left) ∙ same);
-  below = less_below gate (gate + 1) (g.seen old) c (omega arith) (same_then (gate + 1) (g.seen old) (g.seen new) c below (ready.crash c left));
+-- a crash of a file that is as ready as it was
+pub left_ready : {D : Type 0} (g : Ghosts D) (gate : ℕ) (old new : D) (batch : List ℕ) → StaysReady g gate old new → (c : List ℕ) → g.may_leave new c
+    → IsLeft gate (g.seen old) batch c
+left_ready g gate old new batch s c left = record {
+  stands = inl (kept gate (g.seen new) c s.ready.rests (s.ready.crash c left) ∙ s.same);
+  below = less_below gate (gate + 1) (g.seen old) c (omega arith) (same_then (gate + 1) (g.seen old) (g.seen new) c s.below (s.ready.crash c left));
 }
 
 -- a crash while the gate is opened

@@ -31,6 +31,12 @@ pub record IsReady {D : Type 0} (g : Ghosts D) (gate : ℕ) (disk : D) : Type 0 
   pub rests : RestsAt gate (g.seen disk)
   pub crash : (c : List ℕ) → g.may_leave disk c → SameBelow (gate + 1) (g.seen disk) c
 
+-- the file is as ready as it was, stands for the same, and hasn't changed up to the gate and with it
+pub record StaysReady {D : Type 0} (g : Ghosts D) (gate : ℕ) (old new : D) : Type 0 where
+  pub ready : IsReady g gate new
+  pub same : recovered (g.seen new) ≡ recovered (g.seen old)
+  pub below : SameBelow (gate + 1) (g.seen old) (g.seen new)
+
 -- the batch that stands behind a shut gate, as it is once the gate is open
 abbrev pub batch_behind : ℕ → List ℕ → List ℕ
 batch_behind gate file = 1 ∷ part file (gate + 1) (size_of (drop gate file) - 1)
@@ -43,6 +49,11 @@ batch_of head bodies rows = 1 ∷ (head ++ (bodies ++ rows))
 pub record IsStaged (gate : ℕ) (file : List ℕ) : Type 0 where
   pub within : gate + size_of (drop gate file) < length file
   pub next : slice_index file (gate + size_of (drop gate file)) ≢ 1
+
+-- and it is this batch
+pub record IsStagedAs (gate : ℕ) (batch file : List ℕ) : Type 0 where
+  pub staged : IsStaged gate file
+  pub same : batch_behind gate file ≡ batch
 
 -- the file stands for the old batches, or for these and the new one behind them
 abbrev pub IsOldOrNew : List (List ℕ) → List ℕ → List ℕ → Type 0

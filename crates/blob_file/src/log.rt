@@ -74,13 +74,15 @@ impl<D: Disk> Log<D> {
 
         // A crash in it leaves the old batches, or these and the new one.
         ensures any_moment { IsTrue self.old.is_whole → IsClean D.Disk self.new.disk → (c : List ℕ)
-            → D.may_leave self.new.disk c → IsLeft self.old.gate (D.seen self.old.disk) (new_batch bodies.now rows.now) c }
+            → D.may_leave self.new.disk c
+            → IsLeft self.old.gate (D.seen self.old.disk) (new_batch bodies.now rows.now) c }
 
         ensures kept { OnErr result (IsTrue self.new.is_whole → IsClean D.Disk self.new.disk
             → recovered (D.seen self.new.disk) ≡ recovered (D.seen self.old.disk)) }
         ensures was_whole { IsTrue self.new.is_whole → IsTrue self.old.is_whole }
         ensures refused { IfErr result (AppendFails self.old.is_whole
-            (self.old.gate + 25 + length bodies.now + length rows.now) (D.faults self.old.disk) (D.faults self.new.disk)) }
+            (self.old.gate + 25 + length bodies.now + length rows.now) (D.faults self.old.disk)
+            (D.faults self.new.disk)) }
         ensures clean { IsClean D.Disk self.new.disk → IsClean D.Disk self.old.disk }
     {
         if !self.is_whole {

@@ -1,7 +1,7 @@
 //! The writes of a flush behind the shut gate, which a crash leaves without effect.
 
-ghost use Rattle.blob_file.specs.{Appending.{IsPlan, PlanFails}, Format.{head_bytes, number, recovered}};
-ghost use Rattle.blob_file.specs.Log.{IsReady, IsStaged, SameBelow, batch_behind, batch_of};
+ghost use Rattle.blob_file.specs.{Appending.{IsPlan, PlanFails}, Format.{head_bytes, number}};
+ghost use Rattle.blob_file.specs.Log.{IsReady, IsStagedAs, StaysReady, batch_of};
 ghost use Rattle.sqlite_disk.specs.{Digest.{digest}, Disk.{CountsFault}};
 ghost use Rattle.sqlite_wal.specs.Reads.{IsClean};
 ghost use Rattle.std.specs.Option.{SomeIff};
@@ -93,14 +93,9 @@ pub fn write_batch<D: Disk>(
     requires rows { number head.now 8 + 1 ≡ length tail.now }
     requires last { slice_index tail.now (number head.now 8) ≡ 0 }
     requires fits { gate + 25 + length bodies.now < 2 ^ 64 }
-    ensures staged { OnOk result (IsClean D.Disk disk.new → IsStaged gate (D.seen disk.new)) }
-    ensures batch { OnOk result (IsClean D.Disk disk.new
-        → batch_behind gate (D.seen disk.new) ≡ batch_of head.now bodies.now (take (length tail.now - 1) tail.now)) }
-
-    // At each exit:
-    ensures ready { IsClean D.Disk disk.new → IsReady D.Disk gate disk.new }
-    ensures same { IsClean D.Disk disk.new → recovered (D.seen disk.new) ≡ recovered (D.seen disk.old) }
-    ensures below { IsClean D.Disk disk.new → SameBelow (gate + 1) (D.seen disk.old) (D.seen disk.new) }
+    ensures staged { OnOk result (IsClean D.Disk disk.new → IsStagedAs gate
+        (batch_of head.now bodies.now (take (length tail.now - 1) tail.now)) (D.seen disk.new)) }
+    ensures stays { IsClean D.Disk disk.new → StaysReady D.Disk gate disk.old disk.new }
     ensures faults { CountsFault result (D.faults disk.old) (D.faults disk.new) }
     ensures clean { IsClean D.Disk disk.new → IsClean D.Disk disk.old }
     ensures usable { IsTrue (D.is_usable disk.new) }

@@ -1,18 +1,17 @@
-use Rattle.std.proofs.Common.{refl, sym, ◌∙◌, ap, ap₂, subst, ℕ, List, [], ◌∷◌, ◌++◌, length, arith}
+use Rattle.std.proofs.Common.{sym, ◌∙◌, ap, ap₂, subst, ℕ, List, [], ◌∷◌, ◌++◌, length, arith}
 use Rattle.std.specs.Prelude.{slice_index}
 use Rattle.std.proofs.lemmas.List.{length_push}
 use Rattle.blob_file.specs.Format.{number, AreSummed}
 use Rattle.blob_file.specs.Log.{IsReady}
 use Rattle.blob_file.specs.Rows.{AreFormed}
-use Rattle.blob_file.proofs.FlushWrites.{same_all}
+use Rattle.blob_file.proofs.FlushWrites.{stays_not}
 use Rattle.blob_file.proofs.NewBatches.{head_bodies, head_rows, is_new, left_ready, left_sealed, new_sound, next_gate, tail_last}
 use Rattle.blob_file.proofs.Scans.{formed_push, summed_push}
 use Rattle.blob_file.proofs.log.Log.append.Goals as goal
 
 pub returns-in_err-plan-clause-any_moment : goal.returns-in_err-plan-clause-any_moment
 returns-in_err-plan-clause-any_moment g c whole clean left may =
-    let ready = c.requires.open.ready whole clean in
-    left_ready g.D.Disk _ _ _ _ refl (same_all _ _ (omega (arith, ready.rests.within))) ready left may
+    left_ready g.D.Disk _ _ _ _ (stays_not g.D.Disk _ _ (c.requires.open.ready whole clean)) left may
 
 pub write_batch-requires-clause-bodies : goal.write_batch-requires-clause-bodies
 write_batch-requires-clause-bodies g c =
@@ -34,33 +33,35 @@ write_batch-requires-clause-last g c =
 
 pub returns-in_err-write_batch-clause-any_moment :
     goal.returns-in_err-write_batch-clause-any_moment
-returns-in_err-write_batch-clause-any_moment g c whole clean left may =
-    left_ready g.D.Disk _ _ _ _ (c.write_batch.ensures.same clean) (c.write_batch.ensures.below clean) (c.write_batch.ensures.ready clean) left may
+returns-in_err-write_batch-clause-any_moment g c whole clean left may = left_ready g.D.Disk _ _ _ _ (c.write_batch.ensures.stays clean) left may
 
 pub returns-in_err-seal-clause-any_moment : goal.returns-in_err-seal-clause-any_moment
 returns-in_err-seal-clause-any_moment g c whole clean left may =
     let staged = c.seal.ensures.clean clean in
     let planned = c.in_ok-plan.ensures.planned in
-    let is = is_new _ _ _ _ _ _ (c.in_ok-write_batch.ensures.batch staged) (c.deref.ensures.value ∙ planned.head) (c.deref-2.ensures.value ∙ planned.tail) in
-    left_sealed _ _ _ _ _ (c.write_batch.ensures.same staged) is (new_sound _ _ (omega (arith, planned.fits))
+    let is = is_new _ _ _ _ _ _ (c.in_ok-write_batch.ensures.staged staged).same (c.deref.ensures.value ∙ planned.head)
+    (c.deref-2.ensures.value ∙ planned.tail) in
+    left_sealed _ _ _ _ _ (c.write_batch.ensures.stays staged).same is (new_sound _ _ (omega (arith, planned.fits))
     (omega (arith, planned.fits)) planned.sum c.requires.formed)
-    (c.write_batch.ensures.below staged) (c.seal.ensures.below clean left may) (c.seal.ensures.any_moment clean left may)
+    (c.write_batch.ensures.stays staged).below (c.seal.ensures.below clean left may) (c.seal.ensures.any_moment clean left may)
 
 pub returns-clause-any_moment : goal.returns-clause-any_moment
 returns-clause-any_moment g c whole clean left may =
     let staged = c.seal.ensures.clean clean in
     let planned = c.in_ok-plan.ensures.planned in
-    let is = is_new _ _ _ _ _ _ (c.in_ok-write_batch.ensures.batch staged) (c.deref.ensures.value ∙ planned.head) (c.deref-2.ensures.value ∙ planned.tail) in
-    left_sealed _ _ _ _ _ (c.write_batch.ensures.same staged) is (new_sound _ _ (omega (arith, planned.fits))
+    let is = is_new _ _ _ _ _ _ (c.in_ok-write_batch.ensures.staged staged).same (c.deref.ensures.value ∙ planned.head)
+    (c.deref-2.ensures.value ∙ planned.tail) in
+    left_sealed _ _ _ _ _ (c.write_batch.ensures.stays staged).same is (new_sound _ _ (omega (arith, planned.fits))
     (omega (arith, planned.fits)) planned.sum c.requires.formed)
-    (c.write_batch.ensures.below staged) (c.seal.ensures.below clean left may) (c.seal.ensures.any_moment clean left may)
+    (c.write_batch.ensures.stays staged).below (c.seal.ensures.below clean left may) (c.seal.ensures.any_moment clean left may)
 
 pub returns-clause-appended : goal.returns-clause-appended
 returns-clause-appended g c clean =
     let staged = c.seal.ensures.clean clean in
     let planned = c.in_ok-plan.ensures.planned in
-    let is = is_new _ _ _ _ _ _ (c.in_ok-write_batch.ensures.batch staged) (c.deref.ensures.value ∙ planned.head) (c.deref-2.ensures.value ∙ planned.tail) in
-    c.in_ok-seal.ensures.acknowledged clean ∙ ap₂ (λ (x : List (List ℕ)) (y : List ℕ). x ++ y ∷ []) (c.write_batch.ensures.same staged) is
+    let is = is_new _ _ _ _ _ _ (c.in_ok-write_batch.ensures.staged staged).same (c.deref.ensures.value ∙ planned.head)
+    (c.deref-2.ensures.value ∙ planned.tail) in
+    c.in_ok-seal.ensures.acknowledged clean ∙ ap₂ (λ (x : List (List ℕ)) (y : List ℕ). x ++ y ∷ []) (c.write_batch.ensures.stays staged).same is
 
 pub returns-clause-open : goal.returns-clause-open
 returns-clause-open g c = record {
@@ -68,21 +69,26 @@ returns-clause-open g c = record {
   ready = λ _ clean.
       let staged = c.seal.ensures.clean clean in
       let planned = c.in_ok-plan.ensures.planned in
-      let is = is_new _ _ _ _ _ _ (c.in_ok-write_batch.ensures.batch staged) (c.deref.ensures.value ∙ planned.head) (c.deref-2.ensures.value ∙ planned.tail) in
-      subst (λ (k : ℕ). IsReady g.D.Disk k c.seal.new.disk) (next_gate _ _ _ _ (c.in_ok-write_batch.ensures.staged staged) is ∙ sym planned.end)
+      let is = is_new _ _ _ _ _ _ (c.in_ok-write_batch.ensures.staged staged).same (c.deref.ensures.value ∙ planned.head)
+      (c.deref-2.ensures.value ∙ planned.tail) in
+      subst (λ (k : ℕ). IsReady g.D.Disk k c.seal.new.disk) (next_gate _ _ _ _ (c.in_ok-write_batch.ensures.staged staged).staged is ∙ sym planned.end)
       (c.in_ok-seal.ensures.ready clean);
   summed = λ _ clean.
       let staged = c.seal.ensures.clean clean in
       let planned = c.in_ok-plan.ensures.planned in
-      let is = is_new _ _ _ _ _ _ (c.in_ok-write_batch.ensures.batch staged) (c.deref.ensures.value ∙ planned.head) (c.deref-2.ensures.value ∙ planned.tail) in
-      let grown = c.in_ok-seal.ensures.acknowledged clean ∙ ap₂ (λ (x : List (List ℕ)) (y : List ℕ). x ++ y ∷ []) (c.write_batch.ensures.same staged) is in
+      let is = is_new _ _ _ _ _ _ (c.in_ok-write_batch.ensures.staged staged).same (c.deref.ensures.value ∙ planned.head)
+      (c.deref-2.ensures.value ∙ planned.tail) in
+      let grown = c.in_ok-seal.ensures.acknowledged clean ∙ ap₂ (λ (x : List (List ℕ)) (y : List ℕ). x ++ y ∷ [])
+      (c.write_batch.ensures.stays staged).same is in
       let sound = new_sound _ _ (omega (arith, planned.fits)) (omega (arith, planned.fits)) planned.sum c.requires.formed in
       subst AreSummed (sym grown) (summed_push _ _ (c.requires.open.summed c.if-not-self.false (c.write_batch.ensures.clean staged)) sound.summed);
   formed = λ _ clean.
       let staged = c.seal.ensures.clean clean in
       let planned = c.in_ok-plan.ensures.planned in
-      let is = is_new _ _ _ _ _ _ (c.in_ok-write_batch.ensures.batch staged) (c.deref.ensures.value ∙ planned.head) (c.deref-2.ensures.value ∙ planned.tail) in
-      let grown = c.in_ok-seal.ensures.acknowledged clean ∙ ap₂ (λ (x : List (List ℕ)) (y : List ℕ). x ++ y ∷ []) (c.write_batch.ensures.same staged) is in
+      let is = is_new _ _ _ _ _ _ (c.in_ok-write_batch.ensures.staged staged).same (c.deref.ensures.value ∙ planned.head)
+      (c.deref-2.ensures.value ∙ planned.tail) in
+      let grown = c.in_ok-seal.ensures.acknowledged clean ∙ ap₂ (λ (x : List (List ℕ)) (y : List ℕ). x ++ y ∷ [])
+      (c.write_batch.ensures.stays staged).same is in
       let sound = new_sound _ _ (omega (arith, planned.fits)) (omega (arith, planned.fits)) planned.sum c.requires.formed in
       subst AreFormed (sym grown) (formed_push _ _ (c.requires.open.formed c.if-not-self.false (c.write_batch.ensures.clean staged)) sound.formed);
 }
