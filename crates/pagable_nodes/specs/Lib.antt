@@ -1,4 +1,7 @@
+pub mod Cases
+pub mod Collections
 pub mod Encoding
+pub mod InOrder
 pub mod Nodes
 pub mod Records
 pub mod Bytes
