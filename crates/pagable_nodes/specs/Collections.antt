@@ -2,12 +2,12 @@
 use Rattle.indexmap.specs.{IndexMap.IndexMap, IndexSet.IndexSet}
 use Rattle.pagable_nodes.specs.{
   Encoding.{Encoding, fields, many_items, two},
-  InOrder.{array_in_order, placed_map_in_order, placed_set_in_order, sorted_map_in_order, sorted_set_in_order},
 }
 use Rattle.pagable_traits.specs.{
   Meanings.{lists, lists_single, pairs, pairs_single, seen_by},
   OwnCauses.{reads_either, reads_memory_or, writes_either, writes_long_or, writes_memory_or},
   ReadBack.{over_is_read, two_is_read},
+  Refers.{array_in_order, placed_map_in_order, placed_set_in_order, sorted_map_in_order, sorted_set_in_order},
   declared.impls.holders.Thin.Thin,
 }
 use Rattle.pagable_value_spec.specs.{Keys.KeyOrder, OneForm.{over_has_one_form, two_has_one_form}}

@@ -15,7 +15,7 @@ use Rattle.pagable_traits.specs.{
   declared.{arc.HoldingArc.HoldingArc, impls.texts.PathText.PathText, pagable_arc.PagableArc.PagableArc},
   declared.raw_ref.RawRef.RawRef,
 }
-use Rattle.pagable_nodes.specs.InOrder.{json_in_order}
+use Rattle.pagable_traits.specs.Refers.{json_in_order}
 use Rattle.pagable_value_spec.specs.{
   CarriedTypes.of_span,
   Composite.result_single,

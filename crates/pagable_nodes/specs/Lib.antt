@@ -1,7 +1,6 @@
 pub mod Cases
 pub mod Collections
 pub mod Encoding
-pub mod InOrder
 pub mod Nodes
 pub mod Records
 pub mod Bytes
