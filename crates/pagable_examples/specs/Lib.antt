@@ -4,4 +4,5 @@ pub mod Dolls
 pub mod Expressions
 pub mod Linked
 pub mod Sizes
+pub mod Tasks
 pub mod Words

@@ -2,6 +2,7 @@
 //!
 //! - `dish`: a struct of named fields, which may be a key of maps too.
 //! - `size`: an enum that is encoded as an `Option`.
+//! - `task`: an enum with the numbers of its cases, and a struct with it and a map.
 //! - `doll`: a struct with an `Arc` field.
 //! - `expression`: a type that holds values of its own type.
 //! - `ticket`: a type that is written and read eagerly.
@@ -16,5 +17,6 @@ pub mod doll;
 pub mod expression;
 pub mod linked;
 pub mod size;
+pub mod task;
 pub mod ticket;
 pub mod zoo;

@@ -1,3 +1,4 @@
 pub mod Causes
 pub mod Alone
 pub mod Held
+pub mod Enums

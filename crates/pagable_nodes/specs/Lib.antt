@@ -1,3 +1,5 @@
+pub mod Cases
+pub mod Collections
 pub mod Encoding
 pub mod Nodes
 pub mod Records

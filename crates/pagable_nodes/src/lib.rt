@@ -3,11 +3,13 @@
 #![tactic(auto)]
 
 pub mod bytes;
+pub mod cases;
 pub mod either_node;
 pub mod node_value;
 pub mod one_node;
 pub mod records;
 
+pub use cases::{HasCases, list_case, read_case, write_case};
 pub use either_node::EitherNode;
 pub use node_value::NodeValue;
 pub use one_node::{OneNode, write_with_refs};

@@ -1,7 +1,12 @@
 -- The references of values that hold others, one after the other; and that a value that was made of a reference means what the reference means.
-use Rattle.pagable_traits.specs.Refers.{ListsInOrder, lifted_refers_to_nothing}
+use Rattle.pagable_traits.specs.{
+  JsonData.{json_of, of_value},
+  Refers.{ListsInOrder, lifted_refers_to_nothing},
+  Walks.ListsEach,
+}
 use Rattle.pagable_value_spec.specs.{
   Cursor.{Gave, Is},
+  Json.{Items, Json, Members, array, boolean, float, item, member, no_items, no_members, null, object, of_items, of_json, of_members, string, whole},
   Meaning.{Meaning, lifted, pair, reference, sequence},
   References.references_in,
   Shape.Shape,
@@ -9,10 +14,11 @@ use Rattle.pagable_value_spec.specs.{
   declared.{error.Error.Error, numbers.ArcRef.ArcRef},
 }
 use Rattle.std.proofs.{
-  Common.{Err, List, Ok, Result, ap, append_assoc, length, slice_index_or, sym, ℕ, ◌++◌, ◌+◌, ◌<◌, ◌∙◌, ◌∷◌, ◌≡◌, ◌≤◌},
-  lemmas.List.{append-nil, drop_all, drop_more},
+  Common.{Err, List, Ok, Option, Result, ap, append_assoc, length, refl, slice_index_or, sym, ℕ, [], ◌++◌, ◌+◌, ◌<◌, ◌∙◌, ◌∷◌, ◌≡◌, ◌≤◌},
+  lemmas.{Iterator.{Consumers.YieldsList-from_rest, YieldsList, items_from_drains}, List.{append-nil, drop_all, drop_more}},
 }
-use Rattle.std.specs.Prelude.{Bool, OnOk, drop, false, map, true}
+use Rattle.serde_json.specs.{View.view, declared.value.Value.Value}
+use Rattle.std.specs.{Map.Iter.{TakesFirst, deref, deref_pair}, Prelude.{Bool, OnOk, drop, false, map, true}}
 use Rattle.pagable_value_spec.specs.Meaning as meanings
 
 pub pair_listed : (m n : Meaning ArcRef) (old mid new : List ArcRef) → mid ≡ old ++ references_in m → new ≡ mid ++ references_in n → new ≡ old
@@ -58,5 +64,74 @@ flag_listed list false = sym (append-nil list)
 -- what is lifted refers to nothing
 pub static_listed : (list : List ArcRef) (m : Meaning ⊥) → list ≡ list ++ references_in (lifted m)
 static_listed list m = rw (lifted_refers_to_nothing m) (sym (append-nil list))
+
+-- and a JSON value, with all that is in it
+mutual
+  unfolding references_in
+
+  json-bare : (j : Json) → references_in {A = ArcRef} (of_json j) ≡ []
+  json-bare null = refl
+  json-bare (boolean true) = refl
+  json-bare (boolean false) = refl
+  json-bare (whole z) = refl
+  json-bare (float x) = refl
+  json-bare (string t) = refl
+  json-bare (array js) = items-bare js
+  json-bare (object members) = members-bare members
+
+  items-bare : (js : Items) → references_in {A = ArcRef} (of_items js) ≡ []
+  items-bare no_items = refl
+  items-bare (item j js) = rw (json-bare j, items-bare js) refl
+
+  members-bare : (members : Members) → references_in {A = ArcRef} (of_members members) ≡ []
+  members-bare no_members = refl
+  members-bare (member k j members) = rw (json-bare j, members-bare members) refl
+
+pub json_listed : (list : List ArcRef) (v : Value) → list ≡ list ++ references_in (of_value v)
+json_listed list v = rw (json-bare (json_of (view v))) (sym (append-nil list))
+
+-- ---- items that an iterator yields
+
+pub none_listed : {T : Type 0} (meaning : T → Meaning ArcRef) (old : List ArcRef) → old ≡ old ++ references_in (sequence (map meaning []))
+unfolding references_in
+none_listed meaning old = sym (append-nil old)
+
+-- the references of a list with one more item at its end
+last-listed : {T : Type 0} (meaning : T → Meaning ArcRef) (xs : List T) (x : T) → references_in (sequence (map meaning (xs ++ x ∷ [])))
+    ≡ references_in (sequence (map meaning xs)) ++ references_in (meaning x)
+unfolding references_in
+last-listed meaning [] x = append-nil (references_in (meaning x))
+last-listed meaning (y ∷ ys) x = ap (λ k. references_in (meaning y) ++ k) (last-listed meaning ys x)
+    ∙ sym (append_assoc (references_in (meaning y)) (references_in (sequence (map meaning ys))) (references_in (meaning x)))
+
+pub one_more_listed : {T : Type 0} (meaning : T → Meaning ArcRef) (xs : List T) (x : T) (old mid new : List ArcRef)
+    → mid ≡ old ++ references_in (sequence (map meaning xs)) → new ≡ mid ++ references_in (meaning x)
+    → new ≡ old ++ references_in (sequence (map meaning (xs ++ x ∷ [])))
+one_more_listed meaning xs x old mid new e f = f ∙ ap (λ k. k ++ references_in (meaning x)) e
+    ∙ append_assoc old (references_in (sequence (map meaning xs))) (references_in (meaning x)) ∙ ap (λ k. old ++ k) (sym (last-listed meaning xs x))
+
+map-seen : {T X : Type 0} (meaning : T → Meaning ArcRef) (other : X → Meaning ArcRef) (view : T → X) → ((x : T) → meaning x ≡ other (view x))
+    → (xs : List T) → map meaning xs ≡ map other (map view xs)
+map-seen meaning other view same [] = refl
+map-seen meaning other view same (x ∷ xs) = rw (same x, map-seen meaning other view same xs) refl
+
+-- those of the items that a set or a map shows, seen by view
+shown-listed : {T X : Type 0} {view : T → X} {meaning : T → Meaning ArcRef} (other : X → Meaning ArcRef) {walk ys : List X}
+    → ((x : T) → meaning x ≡ other (view x)) → walk ≡ ys → (old new : List ArcRef) → ListsEach (TakesFirst view) meaning walk old new
+    → new ≡ old ++ references_in (sequence (map other ys))
+shown-listed {view = view} other {ys = ys} same shows old new l =
+    let all : map view l.xs ≡ ys = items_from_drains l.xs (l.all.1.0, l.all.1.1, λ _. (l.all.0, l.all.1.2)) (YieldsList-from_rest ys shows) in
+    l.is ∙ ap (λ ms. old ++ references_in (sequence ms)) (map-seen _ other view same l.xs ∙ ap (map other) all)
+
+pub set_listed : {X Y : Type 0} (other : X → Meaning ArcRef) (r : Result Y Error) {walk ys : List X} (old new : List ArcRef) → walk ≡ ys
+    → OnOk r (ListsEach (TakesFirst deref) (λ x. other x.now) walk old new) → OnOk r (new ≡ old ++ references_in (sequence (map other ys)))
+set_listed other (Ok y) old new shows l = shown-listed other (λ x. refl) shows old new l
+set_listed other (Err e) old new shows l = tt
+
+pub map_listed : {K V Y : Type 0} (M : K → Meaning ArcRef) (N : V → Meaning ArcRef) (r : Result Y Error) {walk ys : List (K × V)} (old new : List ArcRef)
+    → walk ≡ ys → OnOk r (ListsEach (TakesFirst deref_pair) (λ e. pair (M e.0.now) (N e.1.now)) walk old new)
+    → OnOk r (new ≡ old ++ references_in (sequence (map (λ e. pair (M e.0) (N e.1)) ys)))
+map_listed M N (Ok y) old new shows l = shown-listed (λ e. pair (M e.0) (N e.1)) (λ x. refl) shows old new l
+map_listed M N (Err e) old new shows l = tt
 
 pub ruleset parts = (append-nil)

@@ -1,14 +1,20 @@
--- The contract of writing each item that an iterator yields; `next` says what the iterator yields between two states.
+-- The contracts of writing each item that an iterator yields, and of listing the references in each; `next` says what the
+-- iterator yields between two states.
 use Rattle.pagable_traits.specs.{Clauses.Piece, Meanings.Means}
 use Rattle.pagable_value_spec.specs.{
   BasicValues.{length_form, longest},
   Composite.MeanAll,
   Lengths.long_or_memory,
+  Meaning.{Meaning, sequence},
+  References.references_in,
   Shape.Shape,
   Writing.{Nesting, Out, Refused, WritesSomeAll, added},
-  declared.error.Error.Error,
+  declared.{error.Error.Error, numbers.ArcRef.ArcRef},
 }
-use Rattle.std.specs.{Iterator.{Drains, YieldsThen}, Prelude.{List, Option, Some, ℕ, [], ◌≤◌, ◌⊎◌}}
+use Rattle.std.specs.{
+  Iterator.{Drains, YieldsThen},
+  Prelude.{List, Option, Some, map, ℕ, [], ◌++◌, ◌≡◌, ◌≤◌, ◌⊎◌},
+}
 
 -- the iterator yielded these items and then no more, and each was written
 pub record WritesEach {W T : Type 0} (next : W → Option T → W → Type 0) (M : Means T) (walk : W)
@@ -51,3 +57,10 @@ counted_forms next M walk count s = record {
   wrote = λ n. WritesCounted next M walk count n s;
   lacks = λ n. RefusedCounted next M walk count n s;
 }
+
+-- the iterator yielded these items and then no more, and their references were appended
+pub record ListsEach {W T : Type 0} (next : W → Option T → W → Type 0) (meaning : T → Meaning ArcRef) (walk : W)
+    (old new : List ArcRef) : Type 0 where
+  pub xs : List T
+  pub all : Drains next walk xs
+  pub is : new ≡ old ++ references_in (sequence (map meaning xs))

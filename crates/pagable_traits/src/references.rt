@@ -4,20 +4,30 @@
 ghost use Rattle.pagable_traits.specs.{
   ReadBack.AreRead,
   References.{holding_kind, loose_kind},
-  Refers.{ListsInOrder, both_in_order, list_in_order, optional_in_order, outcome_in_order, reference_in_order},
+  Refers.{ListsInOrder, array_in_order, both_in_order, list_in_order, optional_in_order, outcome_in_order},
+  Refers.{placed_map_in_order, placed_set_in_order, reference_in_order, run_in_order, sorted_map_in_order},
+  Refers.sorted_set_in_order,
+  Walks.ListsEach,
 };
 ghost use Rattle.pagable_value_spec.{
-  specs.{Meaning.sequence, Outcomes.IsOutOfMemory, References.references_in, Shape.both},
+  specs.{Meaning.sequence, Outcomes.IsOutOfMemory, References.references_in, Shape.{both, list as list_shape}},
 };
-ghost use Rattle.std.specs.Prelude.{IfErr, IfOk, OnOk, map, [], ◌++◌, ◌∷◌, ◌≡◌};
+ghost use Rattle.std.specs.{Iterator.IsFinite, Prelude.{IfErr, IfOk, OnOk, map, [], ◌++◌, ◌∷◌, ◌≡◌}};
 
 use crate::arc::HoldingArc;
+use crate::impls::holders::Thin;
+use crate::keys::{PagableKey, PagableOrdKey};
 use crate::pagable_arc::PagableArc;
 use crate::raw_ref::RawRef;
 use crate::{Carried, OneMeaning};
+use indexmap::{IndexMap, IndexSet};
 use pagable_codec::{ArcRef, Env, OfNode};
 use pagable_flavors::Error;
+use smallvec::SmallVec;
 use std::alloc::Global;
+use std::boxed::BoxedSlice;
+use std::collections::{BTreeMap, BTreeSet};
+use std::hash::Hash;
 
 /// A type whose values list the references in them, in the order of writing. Hash maps don't
 /// implement the trait, since their entries may be written in any order.
@@ -138,6 +148,23 @@ impl<E: Env, A: Refers<E>, B: Refers<E>, C: Refers<E>, D: Refers<E>> Refers<E> f
         (both_in_order (E.parts e) (C.Carried.shape e) (D.Carried.shape e) (C.in_order e) (D.in_order e))) };
 }
 
+impl<E: Env, A: Refers<E>, B: Refers<E>, C: Refers<E>, D: Refers<E>, F: Refers<E>> Refers<E>
+    for (A, B, C, D, F) {
+    #[tactic(auto, using(crate::proofs::Listed::pair_listed))]
+    fn list_references(&self, list: &mut Vec<ArcRef>) -> Result<(), Error> {
+        let (first, second, third, fourth, fifth) = self;
+        Refers::<E>::list_references(&(first, (second, (third, (fourth, fifth)))), list)
+    }
+
+    ghost in_order = { λ e. both_in_order (E.parts e) (A.Carried.shape e)
+        (both (B.Carried.shape e) (both (C.Carried.shape e) (both (D.Carried.shape e) (F.Carried.shape e))))
+        (A.in_order e)
+        (both_in_order (E.parts e) (B.Carried.shape e)
+        (both (C.Carried.shape e) (both (D.Carried.shape e) (F.Carried.shape e))) (B.in_order e)
+        (both_in_order (E.parts e) (C.Carried.shape e) (both (D.Carried.shape e) (F.Carried.shape e)) (C.in_order e)
+        (both_in_order (E.parts e) (D.Carried.shape e) (F.Carried.shape e) (D.in_order e) (F.in_order e)))) };
+}
+
 /// Returns the references in a value, in the order in which they are written.
 ///
 /// # Errors
@@ -173,6 +200,103 @@ impl<E: Env, T: Refers<E>> Refers<E> for Vec<T> {
     }
 
     ghost in_order = { λ e. list_in_order (E.parts e) (T.Carried.shape e) (T.in_order e) };
+}
+
+impl<E: Env, T: Refers<E>, const N: usize> Refers<E> for SmallVec<T, N> {
+    fn list_references(&self, list: &mut Vec<ArcRef>) -> Result<(), Error> {
+        list_item_references(self.as_slice(), list)
+    }
+
+    ghost in_order = { λ e. list_in_order (E.parts e) (T.Carried.shape e) (T.in_order e) };
+}
+
+impl<E: Env, T: Refers<E>> Refers<E> for BoxedSlice<T> {
+    fn list_references(&self, list: &mut Vec<ArcRef>) -> Result<(), Error> {
+        list_item_references(self.as_slice(), list)
+    }
+
+    ghost in_order = { λ e. list_in_order (E.parts e) (T.Carried.shape e) (T.in_order e) };
+}
+
+impl<'a, E: Env, T: Refers<E>> Refers<E> for &'a [T] {
+    fn list_references(&self, list: &mut Vec<ArcRef>) -> Result<(), Error> {
+        list_item_references(*self, list)
+    }
+
+    ghost in_order = { λ e. run_in_order (E.parts e) (T.Carried.shape e) (T.in_order e) };
+}
+
+impl<E: Env, T: Refers<E>, const N: usize> Refers<E> for [T; N] {
+    fn list_references(&self, list: &mut Vec<ArcRef>) -> Result<(), Error> {
+        let items = self.as_slice();
+        list_item_references(items, list)
+    }
+
+    ghost in_order = { λ e. array_in_order (E.parts e) N (T.Carried.shape e) (T.in_order e) };
+}
+
+/// A header and a list refer to what their pair refers to.
+impl<E: Env, H: Refers<E>, T: Refers<E>> Refers<E> for Thin<H, T> {
+    #[tactic(auto, using(crate::proofs::Listed::pair_listed))]
+    fn list_references(&self, list: &mut Vec<ArcRef>) -> Result<(), Error> {
+        self.header.list_references(list)?;
+        self.items.list_references(list)
+    }
+
+    ghost in_order = { λ e. both_in_order (E.parts e) (H.Carried.shape e) (list_shape (T.Carried.shape e)) (H.in_order e)
+        (list_in_order (E.parts e) (T.Carried.shape e) (T.in_order e)) };
+}
+
+/// Appends the references of each item that the iterator yields. Fails with `OutOfMemory` only.
+fn list_each<E: Env, T: Refers<E> + Drop, W: Iterator<Item = T>>(
+    walk: W,
+    list: &mut Vec<ArcRef>,
+) -> Result<(), Error>
+    requires can_next { W.can_next walk }
+    requires ends { IsFinite (W.remaining walk) }
+    ensures ok { OnOk result (ListsEach W.next_gives T.Carried.means.meaning walk list.old.items list.new.items) }
+    ensures only { IfErr result IsOutOfMemory }
+{
+    for item in walk {
+        item.list_references(list)?;
+    }
+    Ok(())
+}
+
+/// A map refers to what its keys and its values refer to, entry by entry; so do the other ones.
+impl<E: Env, K: PagableOrdKey<E> + Refers<E>, V: Refers<E>> Refers<E> for BTreeMap<K, V> {
+    fn list_references(&self, list: &mut Vec<ArcRef>) -> Result<(), Error> {
+        let entries = self.iter();
+        list_each::<E, _, _>(entries, list)
+    }
+
+    ghost in_order = { λ e. sorted_map_in_order (E.parts e) K.order (K.Carried.shape e) (V.Carried.shape e)
+        (K.in_order e) (V.in_order e) };
+}
+
+impl<E: Env, K: PagableKey<E> + Hash + Refers<E>, V: Refers<E>> Refers<E> for IndexMap<K, V> {
+    fn list_references(&self, list: &mut Vec<ArcRef>) -> Result<(), Error> {
+        list_each::<E, _, _>(self.iter(), list)
+    }
+
+    ghost in_order = { λ e. placed_map_in_order (E.parts e) (K.Carried.shape e) (V.Carried.shape e)
+        (K.in_order e) (V.in_order e) };
+}
+
+impl<E: Env, T: PagableOrdKey<E> + Refers<E>> Refers<E> for BTreeSet<T> {
+    fn list_references(&self, list: &mut Vec<ArcRef>) -> Result<(), Error> {
+        list_each::<E, _, _>(self.iter(), list)
+    }
+
+    ghost in_order = { λ e. sorted_set_in_order (E.parts e) T.order (T.Carried.shape e) (T.in_order e) };
+}
+
+impl<E: Env, T: PagableKey<E> + Hash + Refers<E>> Refers<E> for IndexSet<T> {
+    fn list_references(&self, list: &mut Vec<ArcRef>) -> Result<(), Error> {
+        list_each::<E, _, _>(self.iter(), list)
+    }
+
+    ghost in_order = { λ e. placed_set_in_order (E.parts e) (T.Carried.shape e) (T.in_order e) };
 }
 
 /// Proves that a reader reads back each form of a reference, as `carried_types_are_read` does for

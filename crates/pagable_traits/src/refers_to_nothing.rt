@@ -2,8 +2,8 @@
 #![tactic(auto, using(crate::proofs::Listed::parts), unfolding(pagable_value_spec::specs::References::references_in))]
 
 ghost use Rattle.pagable_traits.specs.{
-  Refers.{duration_in_order, flag_in_order, letter_in_order, nothing_in_order, pattern_in_order, signed_in_order},
-  Refers.{static_in_order, text_in_order, unsigned_in_order},
+  Refers.{duration_in_order, flag_in_order, json_in_order, letter_in_order, nothing_in_order, pattern_in_order},
+  Refers.{signed_in_order, static_in_order, text_in_order, unsigned_in_order},
 };
 ghost use Rattle.pagable_value_spec.specs.Statics.{meanings_of};
 ghost use Rattle.std.specs.Int.{w128, w16, w32, w64, w8};
@@ -14,7 +14,9 @@ use crate::saved_regex::SavedRegex;
 use crate::static_value::{HasStaticValueRegistry, StaticValue};
 use pagable_codec::{ArcRef, Env};
 use pagable_flavors::Error;
+use serde_json::Value;
 use std::boxed::BoxedStr;
+use std::marker::PhantomData;
 use std::time::Duration;
 
 impl<E: Env> Refers<E> for u8 {
@@ -130,6 +132,14 @@ impl<E: Env> Refers<E> for () {
     ghost in_order = { λ e. nothing_in_order (E.parts e) };
 }
 
+impl<E: Env, T> Refers<E> for PhantomData<T> {
+    fn list_references(&self, _list: &mut Vec<ArcRef>) -> Result<(), Error> {
+        Ok(())
+    }
+
+    ghost in_order = { λ e. nothing_in_order (E.parts e) };
+}
+
 impl<E: Env> Refers<E> for Duration {
     fn list_references(&self, _list: &mut Vec<ArcRef>) -> Result<(), Error> {
         Ok(())
@@ -168,6 +178,15 @@ impl<E: Env> Refers<E> for SavedRegex {
     }
 
     ghost in_order = { λ e. pattern_in_order (E.parts e) };
+}
+
+impl<E: Env> Refers<E> for Value {
+    #[tactic(auto, using(crate::proofs::Listed::json_listed))]
+    fn list_references(&self, _list: &mut Vec<ArcRef>) -> Result<(), Error> {
+        Ok(())
+    }
+
+    ghost in_order = { λ e. json_in_order (E.parts e) };
 }
 
 impl<E: Env, T: HasStaticValueRegistry<E>> Refers<E> for StaticValue<T> {

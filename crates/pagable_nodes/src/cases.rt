@@ -1,0 +1,101 @@
+//! The parts of an enum's impls. An enum is encoded as the number of its case, and then the fields
+//! of the case: the fields of a case with several are a tuple, and those of one without are `()`.
+
+ghost use Rattle.pagable_nodes.specs.Cases.{CaseOf, Cases, MeansCase, ReadsNumber, encoding_of, is_case, shape_of};
+ghost use Rattle.pagable_nodes.specs.Cases.{writes_of};
+ghost use Rattle.pagable_traits.specs.Clauses.{Wrote, bytes, value as form};
+ghost use Rattle.pagable_value_spec.specs.{
+  Meaning.variant,
+  Numbers.unsigned_form,
+  Outcomes.{IsOutOfMemory, memory_or},
+  References.references_in,
+  Shape.cases,
+  declared.error.Error.Error as Refusal,
+};
+ghost use Rattle.std.specs.{Int.w32, Prelude.{IfErr, OnOk, ◌++◌, ◌≡◌}};
+
+use crate::one_node::write_with_refs;
+use pagable_codec::Reader;
+use pagable_flavors::Error;
+use pagable_traits::{
+    ArcRef, Env, PagableDeserializer, PagableSerialize, PagableSerializer, Refers,
+};
+
+/// An enum whose values are encoded as the number of their case, and then the fields of the case.
+pub trait HasCases: Sized {
+    // How the fields of each case are encoded, those of the case 0 first.
+    ghost cases: { Cases };
+
+    // The case of a value: its number and its fields.
+    ghost case_of: { Self → CaseOf cases };
+}
+
+/// Appends the references in the fields of a value's case, in the order in which they are written.
+///
+/// # Errors
+///
+/// - `OutOfMemory` only: some of the references may be appended.
+pub fn list_case<E: Env, V: HasCases, T: Refers<E>>(
+    value: &V,
+    fields: &T,
+    list: &mut Vec<ArcRef>,
+) -> Result<(), Error>
+    requires { (V.case_of value.now).meaning ≡ T.Carried.means.meaning fields.now }
+    ensures ok { OnOk result (list.new.items ≡ list.old.items
+        ++ references_in (variant (V.case_of value.now).number (V.case_of value.now).meaning)) }
+    ensures only { IfErr result IsOutOfMemory }
+{
+    let _same = value;
+    fields.list_references(list)
+}
+
+/// Writes the number of a case, a varint. Fails with `OutOfMemory` only.
+#[tactic(auto, using(pagable_codec::proofs::Writing::parts, pagable_codec::proofs::Writing::steps))]
+fn write_number<E: Env, S: PagableSerializer<E>>(
+    number: u32,
+    serializer: &mut S,
+) -> Result<(), Error>
+    ensures { Wrote E.Env S.PagableSerializer (bytes (unsigned_form w32 number)) IsOutOfMemory serializer.old
+        serializer.new result }
+{
+    serializer.serde().write_u32(number)
+}
+
+/// Writes an enum: the number of the value's case, and then the fields of the case.
+///
+/// # Errors
+///
+/// - as the fields' `pagable_serialize`.
+/// - `OutOfMemory`.
+pub fn write_case<E: Env, V: HasCases, T: Refers<E> + PagableSerialize<E>, S: PagableSerializer<E>>(
+    value: &V,
+    number: u32,
+    fields: &T,
+    serializer: &mut S,
+) -> Result<(), Error>
+    requires number { (V.case_of value.now).number ≡ number }
+    requires means { (V.case_of value.now).meaning ≡ T.means.meaning fields.now }
+    requires shape { shape_of V.cases number ≡ T.shape (S.environment serializer.now) }
+    requires causes { (e : Refusal) → T.write_causes.are e → (encoding_of V.cases number).writes.are e }
+    ensures wrote { Wrote E.Env S.PagableSerializer (form (MeansCase (V.case_of value.now))
+        (cases w32 (is_case V.cases) (shape_of V.cases))) (memory_or (writes_of V.cases).are)
+        serializer.old serializer.new result }
+    ensures listed { OnOk result ((S.out serializer.new).refs ≡ (S.out serializer.old).refs
+        ++ references_in (variant (V.case_of value.now).number (V.case_of value.now).meaning)) }
+{
+    let _same = value;
+    write_number(number, serializer)?;
+    write_with_refs(fields, serializer)
+}
+
+/// Reads the number of a case. The caller refuses a number that no case has with `UnknownTag`, and
+/// reads the fields of the case.
+///
+/// # Errors
+///
+/// - `UnexpectedEnd`, `BadVarint` as the reader's `read_u32`.
+pub fn read_case<E: Env, D: PagableDeserializer<E>>(deserializer: &mut D) -> Result<u32, Error>
+    ensures { ReadsNumber E.Env D.PagableDeserializer deserializer.old deserializer.new result }
+{
+    deserializer.serde().read_u32()
+}

@@ -1,0 +1,5 @@
+use Rattle.pagable_traits.proofs.Listed.{set_listed}
+
+pub returns-clause-ok : Rattle.pagable_traits.proofs.references.BTreeSetRefers.list_references.Goals.returns-clause-ok
+returns-clause-ok g c = set_listed g.T.Carried.means.meaning c.list_each.result c.args.list.now.items c.list_each.new.list.items
+    c.iter.ensures.rest c.list_each.ensures.ok
