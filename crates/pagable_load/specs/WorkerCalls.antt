@@ -4,17 +4,18 @@ use Rattle.pagable_load.specs.{
   declared.access.{PinnedOrLoading.PinnedOrLoading, TakenValue.TakenValue, WorkerNode.WorkerNode},
 }
 use Rattle.pagable_pager_spec.specs.{
-  Access.{EntryHas, MakesCall, WorkerStarts},
+  Access.{EntryHas, EntryRun, MakesCall, WorkerStarts},
   Calls.{CloneCall, ReleaseCall, SetKeyCall, StoreCall, TakeCall},
   Cascade.FallsAnyhow,
   Events.{IsEntry, with_entry_taken},
   Kinds.{HasKinds, HasNoKinds, loose_kind},
   LoadCalls.BeginCall,
-  Pager.PagerState,
+  Pager.{IsPagerWhole, PagerState},
   Refusals.WorkerFault,
   Workers.{PinRefused, PinsAtOnce, RowIs, is_workers_at},
-  World.{Alike, Core, Values},
-  declared.{handle_row.{HandleRow.HandleRow, Owner.Owner}, pinning.Beginning.Beginning},
+  World.{Alike, Core, Seen, Values, Written},
+  declared.{events.WorkerAnswer.WorkerAnswer, handle_row.{HandleRow.HandleRow, Owner.Owner}},
+  declared.pinning.Beginning.Beginning,
 }
 use Rattle.pagable_value_spec.specs.{
   Blob.{Blob, key_of},
@@ -122,3 +123,22 @@ pub record RefusesEntry {N E : Type 0} (v : Values N) (s : PagerState N E) (plac
     (t : PagerState N E) : Type 0 where
   pub why : EntryFault s.core place e
   pub stays : MakesCall v (λ w'. Alike s.core w') s t
+
+-- plain blobs, and what is written, as they are
+abbrev pub plain : {N : Type 0} → Values N → Seen N Blob Written
+plain v = record { values = v; blob_of = λ b. b; written_of = λ w. w }
+
+-- If the pager is whole, the entry at a place is one whose cell has no key, and it is paged out by a worker's steps, on
+-- a table of its own.
+pub record PagesLeaf {N E : Type 0} (v : Values N) (s : PagerState N E) (place : ℕ) (answer : WorkerAnswer)
+    (t : PagerState N E) : Type 0 where
+  pub h : HandleNumber
+  pub has : EntryHas s.core place h OptionalDataKey.None
+  pub pages : IsPagerWhole v s → EntryRun (plain v) s place answer t
+
+-- the same with the answer of a call; or nothing was done
+abbrev pub PagesLeafIfThere : {N E : Type 0} → Values N → PagerState N E → ℕ → Result (Option ℕ) Error → PagerState N E
+    → Type 0
+PagesLeafIfThere v s place (Ok None) t = t ≡ s
+PagesLeafIfThere v s place (Ok (Some key)) t = PagesLeaf v s place (WorkerAnswer.Key key) t
+PagesLeafIfThere v s place (Err e) t = PagesLeaf v s place (WorkerAnswer.Failed e) t

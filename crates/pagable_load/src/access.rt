@@ -7,8 +7,8 @@ ghost use Rattle.pagable_load.specs.{
   AccessView.{MakesCallBringing, TakesLazily},
   AccessView.{as_caller, as_worker, values_at},
   PinStart.{Shares, SharesStarted, StartsPin, ended_of, started_as},
-  WorkerCalls.{RefusesEntry, ReleasesIfKeyed, SetsKeyAndReleases, SharesTaken, StartsEntry, StoresNode},
-  WorkerCalls.{TakesReference, fault_in, taken_of},
+  WorkerCalls.{PagesLeafIfThere, RefusesEntry, ReleasesIfKeyed, SetsKeyAndReleases, SharesTaken, StartsEntry},
+  WorkerCalls.{StoresNode, TakesReference, fault_in, taken_of},
 };
 ghost use Rattle.pagable_pager_spec.specs.{
   Access.{EntryHas, MakesCall, WorkerStarts},
@@ -533,5 +533,19 @@ pub trait WorkerAccess<E: Env<Node: NodeSet<E>>>: Access<E> {
     fn release_if_keyed(&mut self, place: usize) -> Option<bool>
         ensures { Acts Self.known_state Self.acting self.old self.new
             (λ a s t. ReleasesIfKeyed (values_at E.Node.NodeSet E.Env E.Hash.KeyHash a.environment) s a.me place
+            result t) };
+
+    /// Pages out the entry at this place of the page-out list in one call, with the result of a
+    /// worker's steps, if its cell has no key and its value refers to nothing; returns the cell's
+    /// key. Returns None, and does nothing, if the entry isn't such a one, or the access doesn't
+    /// page out in one call.
+    ///
+    /// # Errors
+    ///
+    /// - those of storing the blob. They leave the list as after the worker's steps: the entry has
+    ///   left its place, and stands at the list's end under a new handle if nothing pins its cell.
+    fn page_out_leaf(&mut self, alloc: Global, place: usize) -> Result<Option<DataKey>, Error>
+        ensures { Acts Self.known_state Self.acting self.old self.new
+            (λ a s t. PagesLeafIfThere (values_at E.Node.NodeSet E.Env E.Hash.KeyHash a.environment) s place
             result t) };
 }

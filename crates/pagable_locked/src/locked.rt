@@ -298,4 +298,8 @@ impl<'a, R: Wait, E: Env<Node: NodeSet<E>>, S: PagableStorage<E>> WorkerAccess<E
             Err(_) => None,
         }
     }
+
+    fn page_out_leaf(&mut self, _alloc: Global, _place: usize) -> Result<Option<DataKey>, Error> {
+        Ok(None)
+    }
 }

@@ -1,6 +1,6 @@
 -- Page-outs of an item and of the entries of the list, from the runs of their workers.
 use Rattle.pagable_load.proofs.LoadSteps.{acts_same, acts_then}
-use Rattle.pagable_load.specs.{AccessView.{Acting, as_caller}, WorkerCalls.{RefusesEntry, ReleasesIfKeyed, StartsEntry}}
+use Rattle.pagable_load.specs.{AccessView.{Acting, as_caller}, WorkerCalls.{PagesLeaf, RefusesEntry, ReleasesIfKeyed, StartsEntry}}
 use Rattle.pagable_pageout.proofs.{
   Words.{Action, ArcRef, Bool, Environments, Equalities, Err, Error, HandleNumber, Hashes, IsPagerWhole, List, MakesCall, NeedsNoPager, Nodes, None, Ok},
   Words.{Option, Orders, Owner, PageOutError, PagerState, PartialOrders, Result, RunsToAnswer, SameShelf, Shelf, Some, Task, Todo, Values, WorkerAnswer},
@@ -13,7 +13,8 @@ use Rattle.pagable_pageout.specs.{
   Turns.{Fits, IsAlone, Walked},
 }
 use Rattle.pagable_pager_spec.specs.{
-  Access.{AccessState, EntryHas, WorkerRun, WorkerStarts, entry-is-refused, entry-is-walked, fails, item-is-walked, no-entry-worker, no-more, no-worker, pages},
+  Access.{AccessState, EntryHas, EntryRun, WorkerRun, WorkerStarts, entry-is-refused, entry-is-walked, fails, item-is-walked, no-entry-worker, no-more},
+  Access.{no-worker, pages},
   Access.{skips, worker-ends, worker-goes-on},
   Events.entry_task,
   Kinds.owner_worker,
@@ -165,6 +166,49 @@ module _ {N E : Type 0} {v : Values N} where
       → PagesEntry v place (answer_of (Err why)) mid t → PagesAt v place (Err why) s t
   at-failed place why s mid t (has, same) pages_it = failed-there place why s t has (rw same at pages_it)
 
+  -- ---- an entry that is paged out in one call
+
+  entry-ends : {place : ℕ} {answer : WorkerAnswer} {s u : PagerState N E} → EntryRun (plain v) s place answer u → place < length s.core.list
+      → IsPagerWhole v u × (place ≤ length u.core.list)
+  entry-ends (entry-is-refused h row t s' entry none call) within = (call.whole, omega (arith, ap length call.step.list))
+  entry-ends (no-entry-worker e s' fault call) within = (call.whole, omega (arith, ap length call.step.list))
+  entry-ends {s = s} (entry-is-walked h row t n steps answer mid s' entry kinds starts run) within =
+      let keeps = run-keeps run in (
+        keeps.0,
+        entries-stay s mid s'.pager within starts.begins.step.list (none-shorter starts.begins.whole.whole keeps.0.whole keeps.1),
+      )
+
+  pub at-leaf : (place key : ℕ) (s t : PagerState N E) → PagesLeaf v s place (WorkerAnswer.Key key) t → PagesAt v place (Ok tt) s t
+  at-leaf place key s t p = record {
+    done = λ whole within.
+        let run = p.pages whole in
+        let ends = entry-ends run within in
+        record {
+          whole = ends.0;
+          long = ends.1;
+          goes = λ i next answer s' more. pages i place key p.h answer s t s' next p.has run more;
+          stops = tt;
+        };
+  }
+
+  pub at-leaf-failed : (place : ℕ) (e : Error) (s t : PagerState N E) → PagesLeaf v s place (WorkerAnswer.Failed e) t
+      → PagesAt v place (Err (PageOutError.Failed e)) s t
+  at-leaf-failed place e s t p = record {
+    done = λ whole within.
+        let run = p.pages whole in
+        let ends = entry-ends run within in
+        record {
+          whole = ends.0;
+          long = ends.1;
+          goes = tt;
+          stops = λ i next. fails i place p.h e s t next p.has run;
+        };
+  }
+
+  pub at-no-leaf : (place : ℕ) (result : Result (Unit {0}) PageOutError) (s mid t : PagerState N E) → mid ≡ s → PagesAt v place result mid t
+      → PagesAt v place result s t
+  at-no-leaf place result s mid t same at = rw same at at
+
   -- ---- the list
 
   pub none-paged : (count : ℕ) (s : PagerState N E) → count ≡ length s.core.list → HasPaged v count s s
@@ -186,5 +230,7 @@ pub ruleset items = (tests, acts_all, acts_map, item-unstarted, item-unbegun)
 pub ruleset entries = (tests, acts_map, entry-gone, entry-refused)
 
 pub ruleset places = (tests, acts_map, acts_then, at-released, at-done, at-failed)
+
+pub ruleset leaves = (tests, acts_map, acts_then, at-leaf, at-leaf-failed, at-no-leaf)
 
 pub ruleset listed = (tests, acts_map, acts_then, tells_map, acts_same, none-paged, more-paged, ends-paged, all-paged)

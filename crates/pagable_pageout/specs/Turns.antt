@@ -20,7 +20,7 @@ use Rattle.pagable_pager_spec.specs.{
   Pager.TookWrites,
   Workers.{IsOpenSlot, KeySetFor, WalkDoes, WorkerEnds, WorkerState, answer_after, failing, failing_by, give_known},
   Workers.is_counted,
-  World.{Alike, Core, HasForm, Open, Seen, Shelf, Slot, Todo, Values, Written, of_cell, result_map, row_at, to_pin},
+  World.{Alike, Core, HasForm, Open, Shelf, Slot, Todo, Values, Written, of_cell, result_map, row_at, to_pin},
   World.{to_set, to_start, type_at, was_failed},
   declared.events.{Action.Action, Claim.Claim, WorkerAnswer.WorkerAnswer},
   declared.handle_row.{HandleRow.HandleRow, Owner.Owner},
@@ -39,6 +39,7 @@ use Rattle.std.specs.{
   declared.cmp.{Ord.Ghosts as Orders, PartialEq.Ghosts as Equalities, PartialOrd.Ghosts as PartialOrders},
   declared.sync.Arc.Arc,
 }
+pub use Rattle.pagable_load.specs.WorkerCalls.{plain}
 
 abbrev pub worker_state : Core → Shelf → List Todo → WorkerState
 worker_state core shelf todo = record { core = core; shelf = shelf; todo = todo }
@@ -50,10 +51,6 @@ claim_todo r place below (Ok (Claim.Known key height)) = give_known r key height
 claim_todo r place below (Ok Claim.Waiting) = to_start r place ∷ below
 claim_todo r place below (Ok Claim.AlreadyFailed) = failing was_failed (to_start r place ∷ below)
 claim_todo r place below (Err e) = failing_by e (to_start r place ∷ below)
-
--- plain blobs, and what is written, as they are
-abbrev pub plain : {N : Type 0} → Values N → Seen N Blob Written
-plain v = record { values = v; blob_of = λ b. b; written_of = λ w. w }
 
 -- a step without the place in memory of what it wrote
 abbrev pub plain_took : Action (Arc SerializedData Global) → Action Written

@@ -253,9 +253,9 @@ pub fn page_out_entry<E: Env<Node: NodeSet<E>>, A: WorkerAccess<E>>(
     entry_result(result_of(run(access, alloc, table, worker, &mut path, task)))
 }
 
-// Pages out the entry at an index of the list, or releases it if its cell has a key.
+// Pages out the entry at an index of the list by a worker, or releases it if its cell has a key.
 #[tactic(auto, using(crate::proofs::Pages::places))]
-fn page_out_at<E: Env<Node: NodeSet<E>>, A: WorkerAccess<E>>(
+fn page_out_or_release<E: Env<Node: NodeSet<E>>, A: WorkerAccess<E>>(
     access: &mut A,
     alloc: Global,
     table: &mut LentTable<E>,
@@ -272,6 +272,26 @@ fn page_out_at<E: Env<Node: NodeSet<E>>, A: WorkerAccess<E>>(
             Err(why) => Err(why),
         },
         _ => Ok(()),
+    }
+}
+
+// Pages out the entry at an index of the list, in one call if its value refers to nothing and the
+// access can do so, else by a worker; or releases it if its cell has a key.
+#[tactic(auto, using(crate::proofs::Pages::leaves))]
+fn page_out_at<E: Env<Node: NodeSet<E>>, A: WorkerAccess<E>>(
+    access: &mut A,
+    alloc: Global,
+    table: &mut LentTable<E>,
+    place: usize,
+) -> Result<(), PageOutError>
+    requires caller { (A.acting access.old).me ≡ Owner.Caller }
+    ensures { Acts A.known_state A.acting access.old access.new
+        (λ a. PagesAt (values_at E.Node.NodeSet E.Env E.Hash.KeyHash a.environment) place result) }
+{
+    match access.page_out_leaf(alloc, place) {
+        Ok(None) => page_out_or_release(access, alloc, table, place),
+        Ok(Some(_)) => Ok(()),
+        Err(e) => Err(PageOutError::Failed(e)),
     }
 }
 

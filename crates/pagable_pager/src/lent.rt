@@ -494,6 +494,10 @@ impl<'a, E: Env<Node: NodeSet<E>>, S: PagableStorage<E>> WorkerAccess<E> for Len
         let _told = self.release(entry);
         Some(true)
     }
+
+    fn page_out_leaf(&mut self, alloc: Global, place: usize) -> Result<Option<DataKey>, Error> {
+        with_invariant(self.pager.page_out_leaf(alloc, place), self.pager)
+    }
 }
 
 /// A kind and a key, with a handle of the node that is cached under them, if there is one.

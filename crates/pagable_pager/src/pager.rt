@@ -29,6 +29,7 @@ ghost use Rattle.std.specs.{
 pub mod calls;
 pub mod insert;
 pub mod leaf;
+pub mod leaf_page_out;
 pub mod roots;
 
 use crate::setting::PagerSetting;

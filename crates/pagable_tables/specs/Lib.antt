@@ -11,4 +11,5 @@ pub mod CascadeProgress
 pub mod Core
 pub mod EndingLoads
 pub mod Leaf
+pub mod LeafEntry
 pub mod Soundness

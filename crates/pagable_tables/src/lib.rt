@@ -5,7 +5,7 @@
 //! Each module imports only those before it in this order: `kinds`, `number_table`, `nodes`,
 //! `place`, `handle_table`, `cascade`, `load_table`, `tables`; `checks`, `queries`, `soundness`,
 //! which change nothing; `create`, `release`, `pending`, `workers`, `cache`; `load_handles`,
-//! `load`, `load_end`; `leaf`.
+//! `load`, `load_end`; `leaf`, `leaf_entry`.
 #![tactic(auto)]
 
 pub mod cache;
@@ -15,6 +15,7 @@ pub mod create;
 pub mod handle_table;
 pub mod kinds;
 pub mod leaf;
+pub mod leaf_entry;
 pub mod load;
 pub mod load_end;
 pub mod load_handles;
