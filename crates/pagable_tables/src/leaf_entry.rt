@@ -20,8 +20,9 @@ pub struct LeafEntry {
     pub node_type: u32,
 }
 
-/// Returns the entry at an index of the page-out list, if its cell has no key, there is room for two
-/// more handles, and numbers are left for a worker and three handles.
+/// Returns the entry at an index of the page-out list, if its cell has no key and a value without
+/// references, there is room for two more handles, and numbers are left for a worker and three
+/// handles.
 pub fn find_unkeyed_entry(t: &Tables, place: usize) -> Option<LeafEntry>
     requires { IsWhole t.now }
     ensures { IfSome result (λ entry. (storage : StorageView) → IsLeafEntry (core_of t.now storage) place entry) }
@@ -29,6 +30,9 @@ pub fn find_unkeyed_entry(t: &Tables, place: usize) -> Option<LeafEntry>
     let (row, node_type, OptionalDataKey::None) = queries::pending_entry(t, place)? else {
         return None;
     };
+    if !t.ref_counts.nodes.get(row.node.0)?.references.is_empty() {
+        return None;
+    }
     if t.last_worker == u64::MAX || t.ref_counts.last_handle >= u64::MAX - 2 {
         return None;
     }
