@@ -1,11 +1,11 @@
 #!/usr/bin/env python3
-"""Prints docs/INDEX.md: each public item of the libraries of crates.txt, by crate and module, with the first sentence of
-its comment. tools/check_text.py compares the page with it.
+"""Prints docs/INDEX.md: each public item of the libraries of crates.txt, by crate and module, with its comment's first
+sentence. tools/check_text.py compares the page with it.
 
     tools/api_index.py > docs/INDEX.md
 
-It reads text in the layout of `rt fmt`. An item is public if `pub` stands before it, as the calls of a public trait are.
-Modules of tests are left out.
+It reads text in the layout of `rt fmt`. An item is public if `pub` stands before it, or if it is a call of a public
+trait. Modules of tests are left out.
 """
 import re
 import sys
@@ -89,7 +89,8 @@ def modules(crate):
             yield "::".join(it for it in path if it not in ("lib", "mod")), found
     passed_on = list(exports((source / "lib.rt").read_text(encoding="utf-8")))
     if passed_on:
-        yield "", [(module, f"{said} It has {', '.join(f'`{it}`' for it in names)}.") for module, said, names in passed_on]
+        listed = lambda names: ", ".join(f"`{it}`" for it in names)
+        yield "", [(module, f"{said} It has {listed(names)}.") for module, said, names in passed_on]
 
 
 def index(top):

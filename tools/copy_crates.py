@@ -5,8 +5,8 @@
     tools/copy_crates.py --out TARGET CRATE..    # with what checks kept of them here, up to 5 GB
 
 It copies each crate's folder into TARGET/crates, adds its line to TARGET/crates.txt, and copies HANDLES if TARGET has
-none. What TARGET has already stays as it is; to replace a crate, remove its folder first. Crates of the toolchain aren't
-copied, since `rt` knows them. If a crate isn't here, nothing is copied, and the status is 1.
+none. What TARGET has already stays as it is; to replace a crate, remove its folder first. Crates of the toolchain
+aren't copied, since `rt` knows them. If a crate isn't here, nothing is copied, and the status is 1.
 """
 import re
 import shutil
@@ -31,7 +31,8 @@ def with_what_they_use(names, lines):
 def add_lines(file, lines):
     """Adds the lines to a list of crates that it doesn't have."""
     there = file.read_text(encoding="utf-8").splitlines() if file.exists() else []
-    file.write_text("".join(f"{line}\n" for line in [*there, *(it for it in lines if it not in there)]), encoding="utf-8")
+    added = [line for line in lines if line not in there]
+    file.write_text("".join(f"{line}\n" for line in [*there, *added]), encoding="utf-8")
 
 
 def main(words):

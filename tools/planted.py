@@ -144,7 +144,7 @@ def check_text(work):
     faults = [("crates/pagable_core/src/lib.rt", added) for added in MEMORY]
     faults += [("crates/pagable_locked/src/slot.rt", added) for added in [TWICE, *LOCKS]]
     faults = [(file, added, f"{file}:") for file, added in faults]
-    pages = {"quick/src/main": "README", "four_threads/src/main": "docs/GUIDE", "remote/src/folder_blobs": "docs/GUIDE"}
+    pages = {"quick/src/main": "README", "four_threads/src/main": "README", "remote/src/folder_blobs": "docs/GUIDE"}
     faults += [(f"crates/{file}.rt", "\n// Another line.\n", f"{page}.md:") for file, page in pages.items()]
     faults.append(("crates/pagable_core/src/lib.rt", "\n/// Does nothing.\npub fn nothing() {}\n", "docs/INDEX.md:"))
     for file, added, said in faults:
@@ -719,14 +719,15 @@ def of_night(work):
 
 # What is tried on a tool: one after the other, words that have to be told of a fault, or none, and what is told.
 TOOLS = {
-    "check_text.py": check_text, "copy_crates.py": copies, "edits.py": edits_of_bodies, "wrong_bodies.py": bodies, "threads": threads,
-    "tests.py": of_tests, "plain_pager.py": pager, "plain_rows.py": pager_rows, "plain_values.py": values,
-    "plain_script.py": script, "original_rows.py": original, "speed_sums.py": speed, "compare_speed.py": compare,
-    "speed/as_proved.py": marks, "speed/speed_table.py": table_of_speed, "speed/pictures.py": drawing,
-    "failures/driver.py": driver, "failures/shared.py": of_shared, "failures/hostile.py": hostile_input,
-    "failures/middle.py": rows_in_the_middle, "failures/naming.py": names, "failures/table.py": refusals,
-    "failures/pagectl.py": scripts, "fuzz.py": fuzzed, "programs": programs, "gate.py": of_gate,
-    "gate_times.py": of_times, "file_blobs": files, "hostile": hostile_run, "rows": data_rows, "nightly.py": of_night,
+    "check_text.py": check_text, "copy_crates.py": copies, "edits.py": edits_of_bodies, "wrong_bodies.py": bodies,
+    "threads": threads, "tests.py": of_tests, "plain_pager.py": pager, "plain_rows.py": pager_rows,
+    "plain_values.py": values, "plain_script.py": script, "original_rows.py": original, "speed_sums.py": speed,
+    "compare_speed.py": compare, "speed/as_proved.py": marks, "speed/speed_table.py": table_of_speed,
+    "speed/pictures.py": drawing, "failures/driver.py": driver, "failures/shared.py": of_shared,
+    "failures/hostile.py": hostile_input, "failures/middle.py": rows_in_the_middle, "failures/naming.py": names,
+    "failures/table.py": refusals, "failures/pagectl.py": scripts, "fuzz.py": fuzzed, "programs": programs,
+    "gate.py": of_gate, "gate_times.py": of_times, "file_blobs": files, "hostile": hostile_run, "rows": data_rows,
+    "nightly.py": of_night,
 }
 
 

@@ -208,7 +208,8 @@ def expect_refusal(program, file, text, said, why):
 def remote(program, work):
     """Wrong calls, texts that one run writes and another reads, files of another writer, and each file of them changed
     at each byte, cut, emptied, exchanged and removed."""
-    expect_usage(program, "remote FOLDER put TEXT.. | remote FOLDER get KEY", [], ["a"], ["a", "put"], ["a", "look", "b"])
+    usage = "remote FOLDER put TEXT.. | remote FOLDER get KEY"
+    expect_usage(program, usage, [], ["a"], ["a", "put"], ["a", "look", "b"])
     texts, folder, other = ["first", "", "third"], work / "folder", work / "other"
     files = models.texts_as_files(texts)
     said = "".join(f"{name} {text}\n" for name, text in reversed([*zip(files, texts)]))
