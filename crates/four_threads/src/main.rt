@@ -36,19 +36,17 @@ fn run<T: Threads + Wait + Sync>(rt: &HostRuntime, threads: &T) -> anyhow::Resul
     let alloc = rt.alloc();
     let storage = InMemoryPagableStorage::default(alloc)?;
     let shared = &storage;
-    let job = |number: usize| -> Result<String, Error> {
-        keep_text(threads, alloc, shared, number)
-    };
-    for (number, found) in map_indices(threads, alloc, 4, &job)?
-        .into_iter()
-        .enumerate()
-    {
-        println!(rt; "thread {number} read {}", found?.as_str())?;
-    }
-    println!(rt;
-        "{} wait for page-out",
-        storage.pending_paging_count(threads)
+    let found = map_indices(
+        threads,
+        alloc,
+        4,
+        &|number: usize| -> Result<String, Error> { keep_text(threads, alloc, shared, number) },
     )?;
+    for (number, text) in found.into_iter().enumerate() {
+        println!(rt; "thread {number} read {}", text?.as_str())?;
+    }
+    let waiting = storage.pending_paging_count(threads);
+    println!(rt; "{waiting} wait for page-out")?;
     Ok(())
 }
 
