@@ -7,6 +7,7 @@ sentence. tools/check_text.py compares the page with it.
 It reads text in the layout of `rt fmt`. An item is public if `pub` stands before it, or if it is a call of a public
 trait. Modules of tests are left out.
 """
+import itertools
 import re
 import sys
 import textwrap
@@ -20,7 +21,9 @@ Each public item of the libraries, by crate and module, with the first sentence 
 writes this page. A program takes most of these names from `pagable`; the crates stand in the order of `crates.txt`,
 those that others are made of first.
 """
-OWNER = re.compile(r"^(pub trait|trait|(?:unsafe )?impl)\b(?:<[^{]*?>(?= ))?\s*(.*)")
+# What begins a block of the file: neither a part of one, nor a comment, nor an attribute.
+BLOCK = re.compile(r"(?!where\b)\w")
+OWNER = re.compile(r"^(pub trait|trait|(?:unsafe )?impl)\b(.*)")
 ITEM = re.compile(r"^(\s*)(pub )?(?:const |unsafe )*(fn|struct|enum|trait|type|const|mod) (\w+)")
 SENTENCE = re.compile(r"^(.*?\.)(?: |$)")
 MODULE = re.compile(r"(?m)^( *)pub mod (\w+) \{$")
@@ -33,8 +36,10 @@ def owner_of(line):
     head = OWNER.match(line)
     if not head:
         return None, False
-    name = re.match(r"(?:\w+::)*(\w+)", head[2])
-    is_of_trait = head[1].endswith("impl") and re.search(r"\bfor \w", head[2])
+    depths = list(itertools.accumulate((letter == "<") - (letter == ">") for letter in head[2]))
+    plain = "".join(letter for letter, depth in zip(head[2], depths) if not depth and letter != ">").strip()
+    name = re.match(r"(?:\w+::)*(\w+)", plain)
+    is_of_trait = head[1].endswith("impl") and " for " in plain
     return (None if is_of_trait or not name else name[1]), head[1] == "pub trait"
 
 
@@ -57,7 +62,7 @@ def items(text):
         if skipped:
             skipped = "" if line == skipped else skipped
             continue
-        if line and not line[0].isspace() and line[0] not in "})/#":
+        if BLOCK.match(line):
             owner, needs_no_pub = owner_of(line)
         found = ITEM.match(line)
         if found and found[3] == "mod":
