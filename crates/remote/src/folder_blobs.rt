@@ -1,6 +1,6 @@
 //! A storage over a folder that nobody has to trust.
 
-ghost use Rattle.pagable_value_spec.specs.{Stored.HasFailed, declared.error.Error.Error.{Storage}};
+ghost use Rattle.pagable_value_spec.specs.{Stored.HasFailed, declared.error.Error.TheVariants.Storage};
 ghost use Rattle.std.specs.Prelude.{None, false, ◌≡◌};
 
 use crate::preimage::{read_blob, write_blob};

@@ -1,5 +1,7 @@
 //! The bytes of a blob in its file: those that its key is the hash of.
 
+ghost use Rattle.std.specs.Prelude.{IfSome, length, ◌≤◌};
+
 use pagable::{DataKey, PagableData};
 use std::alloc::{AllocError, Global};
 
@@ -24,7 +26,9 @@ fn read_key(bytes: &[u8]) -> Option<DataKey> {
 }
 
 /// Returns where the child keys begin in the bytes behind their count, or None if these are too few.
-fn start_of_keys(count: &[u8], behind: &[u8]) -> Option<usize> {
+fn start_of_keys(count: &[u8], behind: &[u8]) -> Option<usize>
+    ensures { IfSome result (λ start. start ≤ length behind.now) }
+{
     let Ok(count) = <[u8; 8]>::try_from(count) else {
         return None;
     };
