@@ -112,7 +112,7 @@ def texts(fault, _):
 def refusal(store, words):
     """Why a call of `heap_snapshot` fails, or None."""
     if not store.parent.exists():
-        return f"opening {store}: the file cannot be opened"
+        return f"opening {store}: there is no such folder"
     if store.exists() and store.read_bytes()[:2] != b"\x80\x04":
         return f"opening {store}: the file is none of blobs"
     if words and not pathlib.Path(words[0]).exists():

@@ -164,8 +164,8 @@ def files(run, program):
     for name in ("fifo", "folder", "garbage", "ring", "foreign", "/dev/zero", "/dev/full"):
         _, fault, status, seconds = run.ask([program, name, "stat"])
         came = f"{fault.decode().strip().rpartition(': ')[2]}, {status}"
-        run.tell(f"blobctl: {name}", came, seconds, "(the file is none of blobs|the file cannot be opened|"
-                 r"Too many levels of symbolic links \(os error 40\)), 1", 5)
+        wanted = "(the file is none of blobs|the path names no regular file|the disk failed), 1"
+        run.tell(f"blobctl: {name}", came, seconds, wanted, 5)
 
 
 def asked():
