@@ -11,7 +11,7 @@ import resource
 import subprocess
 
 from asking import limit_files, removed, run
-from plain_file import PlainFile, Refused, batch, blob, file_of
+from plain_file import PlainFile, Refused, batch, blob, file_of, key_of
 
 SOURCE = pathlib.Path(__file__).resolve().parent.parent.parent / "crates" / "pagable_file" / "src"
 # A chain of three blobs, each over the one before, and one that is nowhere.
@@ -30,9 +30,13 @@ FLAWED = [
     ([blob(b"", [ABSENT, ABSENT])], [], [f"{blob(b'', [ABSENT, ABSENT])[0]} refers to {ABSENT}, which is missing"] * 2),
     ([FIRST], [(b"main", ABSENT), (b"other", FIRST[0])], [f"root main is {ABSENT}, which is missing"]),
     ([FIRST], [(b"a\nb", ABSENT)], [f"root a\\nb is {ABSENT}, which is missing"]),
+    ([(OTHER, 1, bytes(16) + b"x")], [(b"main", OTHER)], [f"what stands under {OTHER} is no blob"]),
+    ([("00" * 16, *FIRST[1:])], [], [f"what stands under {'00' * 16} is no blob"]),
+    ([(OTHER, 1, SECOND[2])], [], [f"{OTHER} has another key", f"{OTHER} refers to {FIRST[0]}, which is missing"]),
 ]
 # For each kind of flaw, a pattern of the lines that tell it.
 FLAWS = {
+    "StrayBlob": r"what stands under [0-9a-f]{32} is no blob",
     "WrongKey": r"[0-9a-f]{32} has another key",
     "MissingChild": r"[0-9a-f]{32} refers to [0-9a-f]{32}, which is missing",
     "MissingRoot": r"root \S+ is [0-9a-f]{32}, which is missing",
@@ -91,27 +95,18 @@ def looked(program, file):
 
 
 def plainly(content):
-    """The same of a file with this content, by plain_file.py. (A body that has changed has another key; of that blob no
-    child is asked for.)"""
+    """The same of a file with this content, by plain_file.py."""
     try:
         plain = PlainFile(content)
     except Refused as refused:
         return {str(refused)}
     found = []
     for key, (children, body) in plain.blobs.items():
-        if blob_key(children, body) != key:
-            found.append(f"{key} has another key")
-        else:
-            missing = [it for it in plain.children(key) if it not in plain.blobs]
-            found += [f"{key} refers to {it}, which is missing" for it in missing]
+        found += [f"{key} has another key"] if key_of(body, children) != key else []
+        missing = [it for it in plain.children(key) if it not in plain.blobs]
+        found += [f"{key} refers to {it}, which is missing" for it in missing]
     found += [f"root {name} is {key}, which is missing" for name, key in plain.names.items() if key not in plain.blobs]
     return plain.listed(), plain.roots(), sorted(found)
-
-
-def blob_key(children, body):
-    """The key of a blob with this body."""
-    cut = 16 * children
-    return blob(body[cut:], [body[at : at + 16].hex() for at in range(0, cut, 16)])[0]
 
 
 def small(program, file):
