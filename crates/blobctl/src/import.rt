@@ -117,7 +117,10 @@ fn fill<B: BlobsInFile>(rt: &HostRuntime, old: &str, path: &str) -> Answer {
     let names = set_names(rt.alloc(), &mut from, &mut to)?;
     to.flush()?;
     from.close()?;
-    Ok((format!(in rt.alloc(); "{blobs} blobs, {names} names imported\n")?, true))
+    Ok((
+        format!(in rt.alloc(); "{blobs} blobs, {names} names imported\n")?,
+        true,
+    ))
 }
 
 /// Reads all blobs and names of the database at `old` into a new file at `path`, and says how many these

@@ -89,7 +89,11 @@ impl fmt::Display for Refusal {
             Refusal::Database(error) => write!(f, "error: the database: {error}"),
             Refusal::OddRow => f.write_str("error: a row of the database is no blob's or name's"),
             Refusal::OtherKey(key) => {
-                write!(f, "error: the blob under {:032x} has another key", digits(*key))
+                write!(
+                    f,
+                    "error: the blob under {:032x} has another key",
+                    digits(*key)
+                )
             }
         }
     }

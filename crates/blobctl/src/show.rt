@@ -34,7 +34,11 @@ pub fn write_point(text: &mut String, reached: &ReachedBlob) -> Result<(), Alloc
 pub fn write_flaw(text: &mut String, flaw: &Flaw) -> Result<(), AllocError> {
     match flaw {
         Flaw::StrayBlob(number) => {
-            writeln!(text, "what stands under {:032x} is no blob", number.swap_bytes())
+            writeln!(
+                text,
+                "what stands under {:032x} is no blob",
+                number.swap_bytes()
+            )
         }
         Flaw::WrongKey(key) => writeln!(text, "{:032x} has another key", digits(*key)),
         Flaw::MissingChild(key, child) => {
