@@ -1,5 +1,6 @@
 mod Copying
 mod Each
+mod Flawed
 mod Keys
 mod Naming
 mod Stored

@@ -1,4 +1,6 @@
 pub mod Bodies
 pub mod Copies
+pub mod Flaws
 pub mod Laws
+pub mod Listed
 pub mod Settled

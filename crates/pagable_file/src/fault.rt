@@ -14,16 +14,19 @@ pub enum Fault {
     Shut,
     /// The blob has 4 GiB of bytes or 2^32 child keys or more, or the file would have 2^64 bytes.
     TooLong,
+    /// The file was opened for looking alone.
+    ReadOnly,
 }
 
 impl Fault {
-    /// Returns the code for [`pagable_flavors::Error::Storage`]: 1, 2, 4 or 5.
+    /// Returns the code for [`pagable_flavors::Error::Storage`]: 1, 2, 4, 5 or 6.
     pub fn code(self) -> u32 {
         match self {
             Fault::Io => 1,
             Fault::Damaged => 2,
             Fault::Shut => 4,
             Fault::TooLong => 5,
+            Fault::ReadOnly => 6,
         }
     }
 
@@ -34,6 +37,7 @@ impl Fault {
             2 => Some(Fault::Damaged),
             4 => Some(Fault::Shut),
             5 => Some(Fault::TooLong),
+            6 => Some(Fault::ReadOnly),
             _ => None,
         }
     }
@@ -48,6 +52,7 @@ impl Fault {
             FileError::Failed => Some(Fault::Io),
             FileError::Shut => Some(Fault::Shut),
             FileError::TooLong => Some(Fault::TooLong),
+            FileError::ReadOnly => Some(Fault::ReadOnly),
         }
     }
 }
@@ -59,6 +64,7 @@ impl fmt::Display for Fault {
             Fault::Damaged => "the file is damaged",
             Fault::Shut => "an earlier failure shut the file",
             Fault::TooLong => "the blob is too long",
+            Fault::ReadOnly => "the file is open for looking alone",
         })
     }
 }

@@ -1,7 +1,8 @@
 //! A storage of blobs in a file.
 
 ghost use Rattle.blob_file.specs.{
-  File.{IsSettled, Same, SameBlobs, SameNames, content, content_of, flushed, found_body, named, stored},
+  Appending.MayWrite,
+  File.{IsSettled, Same, SameBlobs, SameNames, content, content_of, flushed, found_body, held_blobs, named, stored},
   Format.recovered,
   Opening.{KeepsBatches, KeepsBytesUnlessFailed, Refuses},
 };
@@ -11,12 +12,13 @@ ghost use Rattle.pagable_file.specs.{
   Settled.{is_honest_file, settled_prop},
 };
 ghost use Rattle.pagable_value_spec.specs.{Blob.key_of, Stored.IsMemoryOrFailure};
-ghost use Rattle.sqlite_wal.specs.Reads.{IsClean};
+ghost use Rattle.sqlite_wal.specs.Reads.{IsClean, OnlyReads};
 ghost use Rattle.std.specs.{
   Arc.arc_value,
   List.AllByRecursion,
   Map.update,
-  Prelude.{IfErr, IfOk, IsTrue, List, OnErr, OnOk, Some, false, is_some, nat_eq, not, ℕ, ◌&&◌, ◌↔◌, ◌≡◌, ◌≤◌, ◌⊎◌},
+  Prelude.{IfErr, IfOk, IsTrue, List, MatchResult, OnErr, OnOk, Some, false, if◌then◌else◌, is_some, nat_eq, not, ℕ},
+  Prelude.{◌&&◌, ◌↔◌, ◌≡◌, ◌≤◌, ◌⊎◌},
 };
 
 use crate::bodies::{read_blob, write_body};
@@ -34,7 +36,8 @@ use std::marker::PhantomData;
 use std::sync::Arc;
 
 /// A storage of blobs over one file that only grows. It holds new blobs back in memory until a
-/// flush writes them all at once.
+/// flush writes them all at once. One that was opened for looking alone takes no new blob and sets no
+/// name.
 #[derive(Drop)]
 pub struct FileBlobs<E: Env, D: Disk + Drop> {
     pub(crate) file: BlobFile<D>,
@@ -58,21 +61,53 @@ impl<E: Env, D: Disk + Drop> FileBlobs<E, D> {
         ensures open { IfOk result (λ blobs. blobs.closed ≡ false) }
         ensures found { IfOk result (λ blobs. IsClean D.Disk blobs.file.log.disk
             → Same (content_of (recovered (D.Disk.seen disk))) (content D.Disk blobs.file)) }
-        ensures whole { IfOk result (λ blobs. IsTrue blobs.file.log.is_whole) }
+        ensures whole { IfOk result (λ blobs. MayWrite blobs.file.log) }
         ensures moment { IfOk result (λ blobs. KeepsBatches D.Disk disk blobs.file.log.disk) }
         ensures moment_err { IfErr result (λ e. KeepsBatches D.Disk disk e.1) }
         ensures refused { IfErr result (λ e. Refuses (IsClean D.Disk e.1) (D.Disk.seen disk) (D.Disk.faults disk) (D.Disk.faults e.1) e.0) }
         ensures kept { IfErr result (λ e. KeepsBytesUnlessFailed D.Disk disk e.1 e.0) }
     {
         match BlobFile::open(alloc, disk) {
-            Ok(file) => Ok(FileBlobs {
-                file,
-                closed: false,
-                stats: Stats::NONE,
-                alloc,
-                environment: PhantomData,
-            }),
+            Ok(file) => Ok(FileBlobs::of_file(alloc, file)),
             Err(refused) => Err(refused),
+        }
+    }
+
+    /// Opens the blobs of a file for looking alone: no byte is written then or later. The file may
+    /// never have been made, or end in the middle of a flush, which doesn't count.
+    ///
+    /// # Errors
+    ///
+    /// With the disk back: `OutOfMemory`, `NotBlobs`, `Damaged` or `Failed`.
+    pub fn look(alloc: Global, disk: D) -> Result<FileBlobs<E, D>, (FileError, D)>
+        requires usable { IsTrue (D.Disk.is_usable disk) }
+        ensures open { IfOk result (λ blobs. blobs.closed ≡ false) }
+        ensures found { IfOk result (λ blobs. IsClean D.Disk blobs.file.log.disk
+            → Same (content_of (recovered (D.Disk.seen disk))) (content D.Disk blobs.file)) }
+        ensures whole { IfOk result (λ blobs. IsTrue blobs.file.log.is_whole × (blobs.file.log.may_write ≡ false)) }
+        ensures refused { IfErr result (λ e. Refuses (IsClean D.Disk e.1) (D.Disk.seen disk) (D.Disk.faults disk)
+            (D.Disk.faults e.1) e.0) }
+        ensures same { MatchResult result (λ blobs. OnlyReads D.Disk disk blobs.file.log.disk)
+            (λ e. OnlyReads D.Disk disk e.1) }
+    {
+        match BlobFile::look(alloc, disk) {
+            Ok(file) => Ok(FileBlobs::of_file(alloc, file)),
+            Err(refused) => Err(refused),
+        }
+    }
+
+    /// Makes a storage over an open file.
+    fn of_file(alloc: Global, file: BlobFile<D>) -> FileBlobs<E, D>
+        requires settled { IsSettled D.Disk file }
+        ensures file { result.file ≡ file }
+        ensures open { result.closed ≡ false }
+    {
+        FileBlobs {
+            file,
+            closed: false,
+            stats: Stats::NONE,
+            alloc,
+            environment: PhantomData,
         }
     }
 
@@ -106,10 +141,12 @@ impl<E: Env, D: Disk + Drop> FileBlobs<E, D> {
         ensures same { IsTrue (is_honest_file D.Disk self.new.file)
             → Same (content D.Disk self.old.file) (content D.Disk self.new.file) }
         // A crash in it or after it leaves what was flushed before, or that and all that waited.
-        ensures any_moment { IsTrue self.old.file.log.is_whole → IsClean D.Disk self.new.file.log.disk → (c : List ℕ)
+        ensures any_moment { MayWrite self.old.file.log → IsClean D.Disk self.new.file.log.disk → (c : List ℕ)
             → D.Disk.may_leave self.new.file.log.disk c
             → Same (flushed D.Disk self.old.file) (content_of (recovered c))
             ⊎ Same (content D.Disk self.old.file) (content_of (recovered c)) }
+        ensures kept { IsTrue (is_honest_file D.Disk self.new.file)
+            → OnErr result (Same (flushed D.Disk self.old.file) (flushed D.Disk self.new.file)) }
         ensures whole { OnOk result (IsTrue self.old.file.log.is_whole → IsTrue self.new.file.log.is_whole) }
         ensures sure { IsTrue (is_honest_file D.Disk self.new.file) → IsTrue (is_honest_file D.Disk self.old.file) }
         ensures only { IfErr result (IsMemoryOrFailure self.old.stats.failures self.new.stats.failures) }
@@ -123,6 +160,16 @@ impl<E: Env, D: Disk + Drop> FileBlobs<E, D> {
             }
             Err(error) => Err(count_file_error(&mut self.stats, error)),
         }
+    }
+
+    /// Returns how many blobs wait for a flush, by a walk over all blobs in memory.
+    pub fn pending(&self) -> usize
+        ensures { result ≡ (if self.now.closed then 0 else held_blobs self.now.file) }
+    {
+        if self.closed {
+            return 0;
+        }
+        self.file.count_held()
     }
 
     /// Returns whether a blob is stored under a key, without a call of the disk. It doesn't test the

@@ -1,6 +1,6 @@
 //! What holds across a crash and across an open, as contracts of functions that go through one.
 
-ghost use Rattle.blob_file.specs.File.{Same, content, flushed};
+ghost use Rattle.blob_file.specs.{Appending.MayWrite, File.{Same, content, flushed}};
 ghost use Rattle.pagable_core.specs.Data.{blob_of};
 ghost use Rattle.pagable_file.specs.Laws.{found_blob, named_blob};
 ghost use Rattle.pagable_file.specs.Settled.{is_honest_file};
@@ -23,7 +23,7 @@ pub fn crash_and_open<E: Env, D: Crash + Drop>(
     alloc: Global,
     blobs: FileBlobs<E, D>,
 ) -> Result<FileBlobs<E, D>, (FileError, D)>
-    requires whole { IsTrue blobs.file.log.is_whole }
+    requires whole { MayWrite blobs.file.log }
     ensures found { IfOk result (λ again. IsClean D.Disk again.file.log.disk
         → Same (flushed D.Disk blobs.file) (content D.Disk again.file)) }
     ensures was_clean { IfOk result (λ again. IsClean D.Disk again.file.log.disk → IsClean D.Disk blobs.file.log.disk) }
@@ -139,7 +139,7 @@ pub fn named_after_crash<E: Env, D: Crash + Drop>(
         Ok(_) => {}
         Err(_) => return None,
     }
-    if !blobs.file.log.is_whole {
+    if !blobs.file.log.is_whole || !blobs.file.log.may_write {
         return None;
     }
     match crash_and_open(alloc, blobs) {

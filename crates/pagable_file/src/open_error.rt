@@ -52,8 +52,11 @@ impl From<FileError> for OpenError {
             FileError::OutOfMemory => OpenError::OutOfMemory,
             FileError::NotBlobs => OpenError::NotBlobs,
             FileError::Damaged => OpenError::Damaged,
-            FileError::Failed | FileError::NoSuchBlob | FileError::Shut | FileError::TooLong =>
-                OpenError::Io,
+            FileError::Failed
+            | FileError::NoSuchBlob
+            | FileError::ReadOnly
+            | FileError::Shut
+            | FileError::TooLong => OpenError::Io,
         }
     }
 }

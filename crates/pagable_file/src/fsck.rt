@@ -1,0 +1,272 @@
+//! The check of a whole file of blobs.
+
+ghost use Rattle.blob_file.specs.{File.{IsSettled, found_body, named, stored}, Rows.Body};
+ghost use Rattle.pagable_core.specs.Data.{blob_of};
+ghost use Rattle.pagable_file.specs.{
+  Bodies.{blob_if_some, blobs_of},
+  Flaws.{AddsFlawsUnless, IsChild, IsFlaw, IsSoundAt, IsSoundName, IsStray, IsThere, IsWhole, Stays},
+  Settled.is_honest_file,
+};
+ghost use Rattle.pagable_value_spec.specs.{Blob.{Blob, key_of}, Stored.IsMemoryOrFailure};
+ghost use Rattle.sqlite_wal.specs.Reads.{IsClean};
+ghost use Rattle.std.specs.{
+  List.{AllByRecursion, Contains},
+  Prelude.{IfErr, IfNone, IfOk, IfSome, IsTrue, List, None, OnOk, Option, Some, false, ℕ, [], ◌↔◌, ◌≡◌, ◌≢◌, ◌≤◌},
+};
+
+use crate::bodies::read_blob;
+use crate::file_blobs::FileBlobs;
+use crate::stats::count_file_error;
+use crate::watch::Watch;
+use blob_file::file::{BlobFile, FoundBlob};
+use blob_file::file_error::FileError;
+use pagable_codec::{Env, KeyHash};
+use pagable_core::PagableData;
+use pagable_flavors::{DataKey, Error};
+use sqlite_disk::Disk;
+use std::alloc::{AllocError, Global};
+
+/// A flaw of a file of blobs.
+#[derive(Debug, PartialEq, Drop)]
+pub enum Flaw {
+    /// The body under this number is no blob's, so no fetch returns one: the number is 0, or the front
+    /// of the body isn't a list of keys.
+    StrayBlob(u128),
+    /// The blob under this key has another key.
+    WrongKey(DataKey),
+    /// The first key's blob refers to the second key, under which no blob is stored.
+    MissingChild(DataKey, DataKey),
+    /// The name stands for the key, under which no blob is stored.
+    MissingRoot(String, DataKey),
+}
+
+/// Adds `flaw` if no blob is stored under `key`.
+fn test_there<D: Disk>(
+    file: &BlobFile<D>,
+    flaws: &mut Vec<Flaw>,
+    key: DataKey,
+    flaw: Flaw,
+) -> Result<(), FileError>
+    ensures tested { (of : Blob → ℕ) (names : List ℕ → Option ℕ)
+        → (stored D.Disk file.now key ≡ None → IsFlaw of (stored D.Disk file.now) names flaw)
+        → OnOk result (AddsFlawsUnless (IsFlaw of (stored D.Disk file.now) names) flaws.old.items flaws.new.items
+        (IsThere (stored D.Disk file.now) key)) }
+{
+    if file.find(key.get()).is_some() {
+        return Ok(());
+    }
+    flaws.push(flaw)?;
+    Ok(())
+}
+
+/// Adds a flaw for each of `children`, the children of the blob under `key`, that isn't stored.
+fn test_children<D: Disk>(
+    file: &BlobFile<D>,
+    flaws: &mut Vec<Flaw>,
+    key: DataKey,
+    children: &[DataKey],
+) -> Result<(), FileError>
+    ensures tested { (of : Blob → ℕ) (names : List ℕ → Option ℕ)
+        → ((child : ℕ) → Contains children.now child → IsChild (stored D.Disk file.now) key child)
+        → OnOk result (AddsFlawsUnless (IsFlaw of (stored D.Disk file.now) names) flaws.old.items flaws.new.items
+        (AllByRecursion (IsThere (stored D.Disk file.now)) children.now)) }
+{
+    for child in children {
+        test_there(file, flaws, *child, Flaw::MissingChild(key, *child))?;
+    }
+    Ok(())
+}
+
+/// Adds a flaw if the key computed from `blob` isn't `key`.
+fn test_key<H: KeyHash>(
+    flaws: &mut Vec<Flaw>,
+    key: DataKey,
+    blob: &PagableData,
+) -> Result<(), FileError>
+    ensures tested { (bodies : ℕ → Option Body) (names : List ℕ → Option ℕ) → blobs_of bodies key ≡ Some (blob_of blob.now)
+        → OnOk result (AddsFlawsUnless (IsFlaw (key_of H.digest) bodies names) flaws.old.items flaws.new.items
+        (key_of H.digest (blob_of blob.now) ≡ key)) }
+{
+    if blob.compute_key::<H>() == key {
+        return Ok(());
+    }
+    flaws.push(Flaw::WrongKey(key))?;
+    Ok(())
+}
+
+/// Returns the key that this number is, and the blob whose body was found there. Returns None if
+/// the number is 0 or the body is no blob's.
+fn keyed_blob(
+    alloc: Global,
+    number: u128,
+    found: &FoundBlob,
+) -> Result<Option<(DataKey, PagableData)>, AllocError>
+    ensures blob { IfOk result (λ it. IfSome it (λ blob. (blob.0 ≡ number) × (number ≢ 0)
+        × (blob_if_some (found_body (Some found.now)) ≡ Some (blob_of blob.1)))) }
+    ensures stray { IfOk result (λ it. IfNone it (IsStray number
+        (record { children = found.now.children; bytes = found.now.body.items }))) }
+{
+    let Some(key) = DataKey::new(number) else {
+        return Ok(None);
+    };
+    match read_blob(alloc, found)? {
+        Some(blob) => Ok(Some((key, blob))),
+        None => Ok(None),
+    }
+}
+
+/// Tests the body that was found under a number, and adds its flaws.
+fn test_body<H: KeyHash, D: Disk>(
+    alloc: Global,
+    file: &BlobFile<D>,
+    flaws: &mut Vec<Flaw>,
+    number: u128,
+    found: &FoundBlob,
+) -> Result<(), FileError>
+    ensures tested { (names : List ℕ → Option ℕ) → stored D.Disk file.now number ≡ found_body (Some found.now)
+        → OnOk result (AddsFlawsUnless (IsFlaw (key_of H.digest) (stored D.Disk file.now) names) flaws.old.items
+        flaws.new.items (IsSoundAt (key_of H.digest) (stored D.Disk file.now) number)) }
+{
+    match keyed_blob(alloc, number, found)? {
+        Some((key, blob)) => {
+            test_key::<H>(flaws, key, &blob)?;
+            test_children(file, flaws, key, blob.arcs.as_slice())
+        }
+        None => {
+            flaws.push(Flaw::StrayBlob(number))?;
+            Ok(())
+        }
+    }
+}
+
+/// Fetches what stands under a number, tests it, and adds its flaws.
+fn test_blob<H: KeyHash, D: Disk, W: Watch>(
+    alloc: Global,
+    file: &mut BlobFile<D>,
+    flaws: &mut Vec<Flaw>,
+    watch: &mut W,
+    number: u128,
+) -> Result<(), FileError>
+    requires settled { IsSettled D.Disk file.old }
+    ensures settled { IsSettled D.Disk file.new }
+    ensures stays { Stays D.Disk file.old file.new }
+    ensures tested { (names : List ℕ → Option ℕ) → IsClean D.Disk file.new.log.disk
+        → OnOk result (AddsFlawsUnless (IsFlaw (key_of H.digest) (stored D.Disk file.old) names) flaws.old.items
+        flaws.new.items (IsSoundAt (key_of H.digest) (stored D.Disk file.old) number)) }
+{
+    watch.note();
+    match file.fetch(alloc, number)? {
+        Some(found) => test_body::<H, D>(alloc, file, flaws, number, &found),
+        None => Ok(()),
+    }
+}
+
+/// Tests what stands under each number, and adds the flaws.
+fn test_blobs<H: KeyHash, D: Disk, W: Watch>(
+    alloc: Global,
+    file: &mut BlobFile<D>,
+    flaws: &mut Vec<Flaw>,
+    watch: &mut W,
+) -> Result<(), FileError>
+    requires settled { IsSettled D.Disk file.old }
+    ensures settled { IsSettled D.Disk file.new }
+    ensures stays { Stays D.Disk file.old file.new }
+    ensures tested { (names : List ℕ → Option ℕ) → IsTrue (is_honest_file D.Disk file.new)
+        → OnOk result (AddsFlawsUnless (IsFlaw (key_of H.digest) (stored D.Disk file.old) names) flaws.old.items
+        flaws.new.items ((key : ℕ) → IsSoundAt (key_of H.digest) (stored D.Disk file.old) key)) }
+{
+    let entries = file.list(alloc)?;
+    for entry in &entries {
+        test_blob::<H, D, W>(alloc, file, flaws, watch, entry.key)?;
+    }
+    Ok(())
+}
+
+/// Adds a flaw if the blob of the key that a name stands for isn't stored.
+fn test_name<D: Disk>(
+    alloc: Global,
+    file: &BlobFile<D>,
+    flaws: &mut Vec<Flaw>,
+    name: &str,
+) -> Result<(), FileError>
+    ensures tested { (of : Blob → ℕ) → OnOk result (AddsFlawsUnless (IsFlaw of (stored D.Disk file.now) (named file.now))
+        flaws.old.items flaws.new.items (IsSoundName (stored D.Disk file.now) (named file.now) name.now)) }
+{
+    let Some(number) = file.root(name) else {
+        return Ok(());
+    };
+    let Some(key) = DataKey::new(number) else {
+        return Err(FileError::Damaged);
+    };
+    let flaw = Flaw::MissingRoot(String::from_str(alloc, name)?, key);
+    test_there(file, flaws, key, flaw)
+}
+
+/// Tests each name, and adds the flaws.
+fn test_names<D: Disk>(
+    alloc: Global,
+    file: &BlobFile<D>,
+    flaws: &mut Vec<Flaw>,
+) -> Result<(), FileError>
+    ensures tested { (of : Blob → ℕ) → OnOk result (AddsFlawsUnless (IsFlaw of (stored D.Disk file.now) (named file.now))
+        flaws.old.items flaws.new.items
+        ((name : List ℕ) → IsSoundName (stored D.Disk file.now) (named file.now) name)) }
+{
+    let names = file.root_names(alloc)?;
+    for name in &names {
+        test_name(alloc, file, flaws, name.as_str())?;
+    }
+    Ok(())
+}
+
+/// Finds all flaws of a file.
+fn find_flaws<H: KeyHash, D: Disk, W: Watch>(
+    alloc: Global,
+    file: &mut BlobFile<D>,
+    watch: &mut W,
+) -> Result<Vec<Flaw>, FileError>
+    requires settled { IsSettled D.Disk file.old }
+    ensures settled { IsSettled D.Disk file.new }
+    ensures stays { Stays D.Disk file.old file.new }
+    ensures tested { IsTrue (is_honest_file D.Disk file.new) → IfOk result (λ flaws. AddsFlawsUnless
+        (IsFlaw (key_of H.digest) (stored D.Disk file.old) (named file.old)) [] flaws.items
+        (IsWhole (key_of H.digest) (stored D.Disk file.old) (named file.old))) }
+{
+    let mut flaws = Vec::new(alloc);
+    test_blobs::<H, D, W>(alloc, file, &mut flaws, watch)?;
+    test_names(alloc, file, &mut flaws)?;
+    Ok(flaws)
+}
+
+impl<E: Env, D: Disk + Drop> FileBlobs<E, D> {
+    /// Finds all flaws of what the file has, flushed or waiting for a flush: reads each blob, computes
+    /// its key again, and looks for each child and for each name's blob. A closed storage has none.
+    ///
+    /// # Errors
+    ///
+    /// Each says nothing of the file.
+    ///
+    /// - `OutOfMemory`.
+    /// - `Storage` only if the call raised the count of failures.
+    #[tactic(auto, using(crate::proofs::Flawed::all_real))]
+    pub fn fsck<W: Watch>(&mut self, alloc: Global, watch: &mut W) -> Result<Vec<Flaw>, Error>
+        ensures exact { self.old.closed ≡ false → IsTrue (is_honest_file D.Disk self.new.file)
+            → IfOk result (λ flaws. (flaws.items ≡ [])
+            ↔ IsWhole (key_of E.Hash.digest) (stored D.Disk self.old.file) (named self.old.file)) }
+        ensures real { IsTrue (is_honest_file D.Disk self.new.file)
+            → IfOk result (λ flaws. AllByRecursion (IsFlaw (key_of E.Hash.digest) (stored D.Disk self.old.file)
+            (named self.old.file)) flaws.items) }
+        ensures stays { Stays D.Disk self.old.file self.new.file }
+        ensures only { IfErr result (IsMemoryOrFailure self.old.stats.failures self.new.stats.failures) }
+        ensures failures_never_fall { self.old.stats.failures ≤ self.new.stats.failures }
+        ensures open { self.new.closed ≡ self.old.closed }
+    {
+        if self.closed {
+            return Ok(Vec::new(alloc));
+        }
+        match find_flaws::<E::Hash, D, W>(alloc, &mut self.file, watch) {
+            Ok(flaws) => Ok(flaws),
+            Err(error) => Err(count_file_error(&mut self.stats, error)),
+        }
+    }
+}
