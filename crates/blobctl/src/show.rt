@@ -33,13 +33,14 @@ pub fn write_point(text: &mut String, reached: &ReachedBlob) -> Result<(), Alloc
 /// Appends a line that describes a flaw. What isn't printable in a name is escaped.
 pub fn write_flaw(text: &mut String, flaw: &Flaw) -> Result<(), AllocError> {
     match flaw {
-        Flaw::StrayBlob(place) => writeln!(text, "the row of blobs at {place} is no key's"),
+        Flaw::StrayBlob(number) => {
+            writeln!(text, "what stands under {:032x} is no blob", number.swap_bytes())
+        }
         Flaw::WrongKey(key) => writeln!(text, "{:032x} has another key", digits(*key)),
         Flaw::MissingChild(key, child) => {
             let (key, child) = (digits(*key), digits(*child));
             writeln!(text, "{key:032x} refers to {child:032x}, which is missing")
         }
-        Flaw::StrayRoot(place) => writeln!(text, "the row of roots at {place} is no name's"),
         Flaw::MissingRoot(name, key) => {
             let (name, key) = (name.escape_debug(), digits(*key));
             writeln!(text, "root {name} is {key:032x}, which is missing")
