@@ -11,7 +11,7 @@ pub mod slice;
 pub mod vec_flavor;
 mod zigzag;
 
-pub use pagable_value_spec::{DataKey, Error, OptionalDataKey, Reason};
+pub use pagable_value_spec::{DataKey, Error, KeyTextError, OptionalDataKey, Reason};
 pub use reader::Reader;
 pub use slice::PagableSlice;
 pub use vec_flavor::PagableVecFlavor;

@@ -4,10 +4,7 @@ use Rattle.pagable_value_spec.specs.{
   Meaning.{Meaning, followed, integer, pair, pattern, reference, text, variant},
   Numbers.zigzag,
 }
-use Rattle.std.proofs.{
-  Common.{List, ap, append_assoc, arith, length, refl, sym, ℕ, ℤ, [], ◌++◌, ◌+◌, ◌∙◌, ◌∷◌, ◌≡◌},
-  lemmas.Bool.Decides.nat_tests,
-}
+use Rattle.std.proofs.{Common.{List, ap, append_assoc, arith, length, refl, sym, ℕ, ℤ, [], ◌++◌, ◌∙◌, ◌∷◌, ◌≡◌}, lemmas.Bool.Decides.nat_tests}
 
 pub same-integer : (y z : ℤ) → zigzag y ≡ zigzag z → y ≡ z
 same-integer x0 x1 e = grind (arith, nat_tests)

@@ -32,3 +32,4 @@ pub mod Tagged
 pub mod Session
 pub mod References
 pub mod Reasons
+pub mod KeyText

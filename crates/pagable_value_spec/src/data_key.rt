@@ -1,10 +1,15 @@
 //! The keys of blobs.
 
-ghost use Rattle.std.specs.Prelude.{IfSome, IsSome, IsTrue, Some, decimal, ◌<◌, ◌↔◌, ◌≡◌, ◌≢◌};
+ghost use Rattle.pagable_value_spec.specs.KeyText.{key_text, named_key};
 ghost use Rattle.pagable_value_spec.specs.declared.data_key.OptionalDataKey.TheVariants as optional;
+ghost use Rattle.std.specs.Prelude.{IfOk, IfSome, IsSome, IsTrue, Ok, Some, ◌<◌, ◌↔◌, ◌≡◌, ◌≢◌};
 
+use hex::FromHex;
+use std::alloc::{AllocError, Global};
 use std::fmt;
 use std::marker::Model;
+use std::str::{self, FromStr};
+use thiserror::Error;
 
 /// The key of a blob: a number of 128 bits that is never 0.
 #[derive(Clone, Copy, Debug, PartialEq, Eq, Hash)]
@@ -45,13 +50,60 @@ impl DataKey {
     }
 }
 
-/// Writes the number in decimal digits.
+/// Why a text names no key.
+#[derive(Error, Clone, Copy, Debug, PartialEq, Eq)]
+pub enum KeyTextError {
+    /// The text isn't 32 hex digits.
+    #[error("a key has 32 hex digits: copy it whole")]
+    NotHex,
+    /// All digits are 0.
+    #[error("no key is 0: take the key of a blob")]
+    Zero,
+}
+
+/// Writes the digest's first 16 bytes, the first one first, as 32 hex digits in lower case.
 impl fmt::Display for DataKey {
-    ghost output = { λ k. Some (decimal k) };
+    ghost output = { λ k. Some (key_text k) };
 
     fn fmt<W: fmt::Write>(&self, f: &mut fmt::Formatter<W>) -> fmt::Result {
-        write!(f, "{}", self.number)
+        let mut digits = [0u8; 32];
+        let Ok(()) = hex::encode_to_slice(self.get().to_le_bytes(), &mut digits) else {
+            return Err(fmt::Error);
+        };
+        let Ok(text) = str::from_utf8(&digits) else {
+            return Err(fmt::Error);
+        };
+        f.write_str(text)
     }
+}
+
+/// Reads 32 hex digits, as `Display` writes them or in upper case.
+impl FromStr for DataKey {
+    type Err = KeyTextError;
+
+    ghost from_str_gives = { λ text read. read ≡ named_key text };
+
+    fn from_str(text: &str) -> Result<DataKey, KeyTextError> {
+        let Ok(bytes) = <[u8; 16]>::from_hex(text) else {
+            return Err(KeyTextError::NotHex);
+        };
+        match DataKey::new(u128::from_le_bytes(bytes)) {
+            Some(key) => Ok(key),
+            None => Err(KeyTextError::Zero),
+        }
+    }
+}
+
+/// Law: what `Display` writes of a key is read as this key.
+#[tactic(auto, using(crate::proofs::KeyTexts::reads_back))]
+pub fn reads_what_it_writes(
+    alloc: Global,
+    key: DataKey,
+) -> Result<Result<DataKey, KeyTextError>, AllocError>
+    ensures { IfOk result (λ read. read ≡ Ok key) }
+{
+    let text = key.to_string(alloc)?;
+    Ok(text.parse())
 }
 
 /// A key, or none.

@@ -6,8 +6,10 @@ pub mod data_key;
 pub mod error;
 pub mod numbers;
 pub mod reason;
+#[cfg(test)]
+mod tests;
 
-pub use data_key::{DataKey, OptionalDataKey};
+pub use data_key::{DataKey, KeyTextError, OptionalDataKey};
 pub use error::Error;
 pub use numbers::{
     ArcRef, HandleNumber, Identity, Kind, LoadNumber, NodeNumber, PagableCursor, WorkerNumber,
