@@ -6,7 +6,7 @@ use crate::export::export_database;
 use crate::look::{graph, list, roots, stat, tree};
 use crate::progress::ProgressPrinter;
 use crate::refusal::Refusal;
-use crate::show::{digits, write_flaw};
+use crate::show::write_flaw;
 use pagable_core::PagableData;
 use pagable_flavors::{DataKey, Error};
 use std::alloc::Global;
@@ -38,8 +38,8 @@ fn blob_of(alloc: Global, words: &str) -> Result<PagableData, Refusal> {
 /// Stores the blob that words spell, and returns its key's line.
 fn put<B: Blobs>(alloc: Global, blobs: &mut B, words: &str) -> Result<String, Refusal> {
     let blob = blob_of(alloc, words)?;
-    let key = digits(blobs.store(alloc, blob)?);
-    Ok(format!(in alloc; "{key:032x}\n")?)
+    let key = blobs.store(alloc, blob)?;
+    Ok(format!(in alloc; "{key}\n")?)
 }
 
 /// Makes a name stand for a key, or for none, and says so.

@@ -41,20 +41,13 @@ impl Verb {
     }
 }
 
-/// Reads a key from 32 hex digits.
+/// Reads a key from a word.
 ///
 /// # Errors
 ///
-/// - `BadLine` if the word is anything else, or all digits are 0.
+/// - `BadLine` if the word is none.
 pub fn key_of(word: &str) -> Result<DataKey, Refusal> {
-    let mut bytes = [0; 16];
-    if hex::decode_to_slice(word, &mut bytes).is_err() {
-        return Err(Refusal::BadLine);
-    }
-    match DataKey::new(u128::from_le_bytes(bytes)) {
-        Some(key) => Ok(key),
-        None => Err(Refusal::BadLine),
-    }
+    word.parse().map_err(|_| Refusal::BadLine)
 }
 
 /// Reads the verb of a line, and the words after it. Returns None for a line that is no command. One

@@ -4,7 +4,6 @@ use crate::blobs::Blobs;
 use crate::new_file::{make_file, remove};
 use crate::progress::ProgressPrinter;
 use crate::refusal::Refusal;
-use crate::show::digits;
 use pagable_core::PagableData;
 use pagable_file::{ListedBlob, Watch};
 use pagable_flavors::DataKey;
@@ -80,7 +79,7 @@ fn add_blobs<B: Blobs, S: Alter, W: Watch>(
     watch: &mut W,
 ) -> Result<usize, Refusal> {
     let mut all = from.list(alloc)?;
-    all.sort_by_key(|blob| digits(blob.key))?;
+    all.sort_by_key(|blob| blob.key.get().swap_bytes())?;
     for batch in all.chunks(BATCH) {
         add_batch(alloc, from, to, batch, watch)?;
     }

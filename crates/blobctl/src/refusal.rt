@@ -1,6 +1,5 @@
 //! Why a command fails.
 
-use crate::show::digits;
 use pagable_file::{Fault, OpenError};
 use pagable_flavors::{DataKey, Error};
 use sqlite::Error as SqlError;
@@ -88,13 +87,7 @@ impl fmt::Display for Refusal {
             ),
             Refusal::Database(error) => write!(f, "error: the database: {error}"),
             Refusal::OddRow => f.write_str("error: a row of the database is no blob's or name's"),
-            Refusal::OtherKey(key) => {
-                write!(
-                    f,
-                    "error: the blob under {:032x} has another key",
-                    digits(*key)
-                )
-            }
+            Refusal::OtherKey(key) => { write!(f, "error: the blob under {key} has another key") }
         }
     }
 }
@@ -102,7 +95,7 @@ impl fmt::Display for Refusal {
 /// Writes why a call on the blobs failed.
 fn write_error<W: fmt::Write>(f: &mut fmt::Formatter<W>, error: &Error) -> fmt::Result {
     match error {
-        Error::NoData(key) => write!(f, "error: no blob stands under {:032x}", digits(*key)),
+        Error::NoData(key) => write!(f, "error: no blob stands under {key}"),
         Error::Storage(code) => match Fault::of_code(*code) {
             Some(fault) => write!(f, "error: {fault}"),
             None => write!(f, "error: storage {code}"),
