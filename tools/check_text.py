@@ -30,7 +30,7 @@ import api_index  # noqa: E402
 
 CRATES = Path(__file__).resolve().parent.parent / "crates"
 CONVERSION = "fn out_of_memory() -> Error"
-OF_LIBRARY = ("pagable_traits/src/saved_regex.rt", "pagable_file/src/stats.rt", "pagable_log/src/stats.rt")
+OF_LIBRARY = ("pagable_traits/src/saved_regex.rt", "pagable_file/src/stats.rt")
 # What isn't code: comments, strings, and what begins a clause or a ghost member, up to its braces.
 NOT_CODE = re.compile(r"//.*|\"(?:\\.|[^\"\\])*\"")
 CLAUSE = re.compile(

@@ -6,8 +6,10 @@ tries the tools on them.
     tools/fakes.py texts FAULT weigh                       # `pagectl`
     tools/fakes.py machine FAULT STORE LINES [PROGRAM]     # `heap_snapshot`
     tools/fakes.py blobs FAULT FILE [COMMAND..]            # `blobctl`
+    tools/fakes.py hosted FAULT COMMAND PATH..             # the program of tools/host_files
     tools/fakes.py remote FAULT FOLDER COMMAND WORD..      # `remote`
 """
+import fcntl
 import hashlib
 import os
 import pathlib
@@ -112,7 +114,7 @@ def texts(fault, _):
 def refusal(store, words):
     """Why a call of `heap_snapshot` fails, or None."""
     if not store.parent.exists():
-        return f"opening {store}: the file cannot be opened"
+        return f"opening {store}: there is no such folder"
     if store.exists() and store.read_bytes()[:2] != b"\x80\x04":
         return f"opening {store}: the file is none of blobs"
     if words and not pathlib.Path(words[0]).exists():
@@ -173,6 +175,32 @@ def blobs(fault, file, *words):
             forgotten.clear()
             file.write_bytes(pickle.dumps(state))
     return int(fault == "has a flaw" and words == ("fsck",))
+
+
+def hosted(fault, command, *paths):
+    """Opens files for a writer, or to look at them, and holds them until a line comes."""
+    is_look, held = command == "look", []
+    for path in paths:
+        held.append(os.open(path, os.O_RDONLY if is_look else os.O_RDWR | os.O_CREAT, 0o666))
+        try:
+            if not is_look and fault != "takes no lock":
+                fcntl.flock(held[-1], fcntl.LOCK_EX | fcntl.LOCK_NB)
+        except BlockingIOError:
+            print("refused: the file is in use")
+            continue
+        it = os.fstat(held[-1])
+        print(f"opened {it.st_dev}:{it.st_ino} mode {it.st_mode & 0o7777:o} owner {it.st_uid}:{it.st_gid} "
+              f"links {it.st_nlink} named true")
+        if command == "write":
+            os.pwrite(held[-1], b"abc", 3)
+            print(f"wrote, {os.fstat(held[-1]).st_size} bytes")
+        if is_look:
+            print(f"{it.st_size} bytes: {os.read(held[-1], 99).decode()}\nwrite refused, cut refused, sync done")
+        if is_look and fault == "writes when it looks":
+            os.truncate(path, 1)
+    sys.stdout.flush()
+    sys.stdin.readline()
+    return 0
 
 
 def remote(fault, *words):

@@ -43,6 +43,7 @@ TOOLS = (
     ("failures", ["tools/failures/run.py"], None),
     ("rows", ["tools/rows/run.py"], None),
     ("programs", ["tools/programs/run.py"], None),
+    ("files of the system", ["tools/host_files/check.py"], None),
     ("files of blobs", ["tools/file_blobs/check.py", BLOBCTL], "blobctl"),
     ("hostile", ["tools/hostile/run.py", "--pagectl", PAGECTL, "--blobctl", BLOBCTL], "all"),
     ("wrong bodies", ["tools/wrong_bodies.py", "--over-ci", "--jobs", "3", "--drawn", "HEAD"], "all"),

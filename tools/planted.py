@@ -689,6 +689,17 @@ def files(work):
     yield "", asking.lost(blobctl, work / "none", roots, 0, 3) or ""
 
 
+def host_files(work):
+    """An open that takes no lock, and a look that writes."""
+    check = module_at("check_of_host_files", HERE / "host_files" / "check.py")
+    for fault, why in [("", ""), ("takes no lock", "second open"), ("writes when it looks", "file beside others")]:
+        found, folder = check.Faults(), work / f"files {fault}"
+        folder.mkdir()
+        for case in (check.makes_and_writes, check.beside):
+            case(program(work, "hosted", fault), folder, found)
+        yield why, "\n".join(found)
+
+
 def hostile_run(work):
     """An input that comes to something else, and one that comes too late."""
     run = module_at("run_of_hostile", HERE / "hostile" / "run.py").Run(work)
@@ -726,8 +737,8 @@ TOOLS = {
     "speed/pictures.py": drawing, "failures/driver.py": driver, "failures/shared.py": of_shared,
     "failures/hostile.py": hostile_input, "failures/middle.py": rows_in_the_middle, "failures/naming.py": names,
     "failures/table.py": refusals, "failures/pagectl.py": scripts, "fuzz.py": fuzzed, "programs": programs,
-    "gate.py": of_gate, "gate_times.py": of_times, "file_blobs": files, "hostile": hostile_run, "rows": data_rows,
-    "nightly.py": of_night,
+    "gate.py": of_gate, "gate_times.py": of_times, "file_blobs": files, "host_files": host_files, "hostile": hostile_run,
+    "rows": data_rows, "nightly.py": of_night,
 }
 
 

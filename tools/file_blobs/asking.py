@@ -2,6 +2,7 @@
 import hashlib
 import random
 import re
+import resource
 import shutil
 import signal
 import subprocess
@@ -36,19 +37,13 @@ def chain(count, size, batch):
 
 
 def removed(file):
-    """A file's path, with nothing there, and no log."""
-    for part in [file, log_of(file)]:
-        part.unlink(missing_ok=True)
+    """A file's path, with nothing there."""
+    file.unlink(missing_ok=True)
     return file
 
 
-def log_of(file):
-    """The path of a file's log."""
-    return file.with_name(f"{file.name}-wal")
-
-
 def alone(file):
-    """A copy of a file alone, without its log."""
+    """A copy of a file."""
     copy = removed(file.with_name(f"{file.name}.copy"))
     shutil.copy(file, copy)
     return copy
@@ -56,9 +51,9 @@ def alone(file):
 
 def seen(program, file):
     """All that a file shows: what `fsck` says, its keys, its roots, and what each of these reaches."""
-    shown = run(program, file, text="fsck\nlist\nroots\n")
-    trees = [f"tree {key}\n" for key in re.findall(r"(?m)^\S+ ([0-9a-f]{32})$", shown.stdout)]
-    return shown.returncode, shown.stdout, run(program, file, text="".join(trees)).stdout
+    test, *shown = [run(program, file, word) for word in ("fsck", "list", "roots")]
+    trees = [run(program, file, "tree", key).stdout for key in re.findall(r"(?m)^\S+ ([0-9a-f]{32})$", shown[1].stdout)]
+    return test.returncode, test.stdout, [sorted(it.stdout.splitlines()) for it in shown], trees
 
 
 def flushes(said):
@@ -88,6 +83,12 @@ def wait_until(holds, process):
     """Waits until something holds, or a process has ended."""
     while not holds() and process.poll() is None:
         time.sleep(0)
+
+
+def limit_files(most):
+    """Lets no file of this process grow past so many bytes."""
+    signal.signal(signal.SIGXFSZ, signal.SIG_IGN)
+    resource.setrlimit(resource.RLIMIT_FSIZE, (most, most))
 
 
 def kill(process):

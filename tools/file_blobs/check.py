@@ -1,33 +1,35 @@
 #!/usr/bin/env python3
-"""Tries what users may do to files of blobs: kills, full disks, a second writer, gc beside others, damage, copies of
-the file alone, SQLite's own shell, texts that one run saves and the next one opens, and calls that are none.
+"""Tries what users may do to files of blobs: kills, full disks, second writers, readers and copies beside a writer, gc
+beside others, damage, modes, links and odd names, databases, texts that one run saves and the next one opens, and calls
+that are none.
 
-    tools/file_blobs/check.py [PROGRAM [KILLS [STEP [SECONDS [SEED]]]]]
+    tools/file_blobs/check.py [PROGRAM [KILLS [SECONDS [SEED]]]]
 
 PROGRAM is the built `blobctl`; without one it is built here, unproved, as tools/speed/build.py says. It is killed at
-KILLS drawn moments (20) while it writes, and at as many while it collects garbage: each of them has to meet a running
-program, and nothing that a flush had answered may be lost. For SECONDS (5) two writers work beside a loop of gc. Each
-STEP-th byte (80) of a file is changed in turn, with the sums of its pages and against them: then the file isn't opened,
-`fsck` names the damage, or nothing that was kept has changed. What is drawn depends on SEED (5). The status is 0 if all
+KILLS drawn moments (40) while it writes, and at as many while it collects garbage: each of them has to meet a running
+program, and nothing that a flush had answered may be lost. For SECONDS (10) two writers work beside a loop of gc and one
+of looks, and for as long a writer beside looks and copies. What is drawn depends on SEED (5). The status is 0 if all
 holds.
 """
 import pathlib
-import resource
-import signal
 import subprocess
 import sys
 import tempfile
+import threading
 import time
 
 sys.dont_write_bytecode = True
 HERE = pathlib.Path(__file__).resolve().parent
 sys.path += [str(HERE), str(HERE.parent / "speed")]
+import access  # noqa: E402
 import collecting  # noqa: E402
 import damages  # noqa: E402
+import databases  # noqa: E402
 from asking import (  # noqa: E402
-    DRAWN, alone, chain, flushes, key_of, kill, log_of, lost, removed, run, seen, wait_until,
+    DRAWN, alone, chain, flushes, key_of, kill, limit_files, lost, removed, run, seen, wait_until,
 )
-from build import built_crate  # noqa: E402
+from build import built_crate, need  # noqa: E402
+from plain_file import PlainFile  # noqa: E402
 
 # How many blobs are stored, and after how many of them comes a flush.
 PLANS = [(150, 1), (700, 7), (1_200, 100)]
@@ -64,16 +66,83 @@ def kills(program, folder, rounds):
     return None
 
 
+class Beside:
+    """A writer of a file, and what others find of it meanwhile: by looks at it, and in copies."""
+
+    def __init__(self, program, file, seconds):
+        self.program, self.file, self.end, self.odd = program, file, time.time() + seconds, []
+        self.roots, self.answered, self.found = [], 0, {"looks": [], "copies": []}
+
+    def write(self):
+        """Flushes a chain of blobs, each over the one before, until the time is over."""
+        with subprocess.Popen([self.program, self.file], stdin=subprocess.PIPE, stdout=subprocess.PIPE, text=True,
+                              bufsize=1) as writing:
+            below = []
+            while time.time() < self.end:
+                data = DRAWN.randbytes(200)
+                key = key_of(data, below)
+                self.roots.append(key)
+                writing.stdin.write(" ".join(["put", data.hex(), *below]) + f"\nroot last {key}\nflush\n")
+                said = [writing.stdout.readline().strip() for _ in range(3)]
+                self.odd += [] if said == [key, "set", "flushed"] else [said]
+                self.answered, below = self.answered + 1, [key]
+            writing.stdin.close()
+
+    def told(self, kind, answered, root, count):
+        """Notes what was found, which has to be all that was flushed up to some moment since."""
+        if root is None and not answered and not count:
+            return
+        number = self.roots.index(root) + 1 if root in self.roots else -1
+        if number < answered or count < number:
+            self.odd.append((kind, answered, number, count))
+        self.found[kind].append(number)
+
+    def look(self):
+        """Looks at the file, which takes no lock."""
+        while time.time() < self.end:
+            answered = self.answered
+            words, test = run(self.program, self.file, "roots").stdout.split(), run(self.program, self.file, "fsck")
+            if not test.stdout.endswith(" 0 flaws\n"):
+                self.odd.append((test.stdout, test.stderr))
+            else:
+                self.told("looks", answered, words[1] if words else None, int(test.stdout.split()[0]))
+
+    def copy(self):
+        """Copies the file, and opens the copy to look at it and to write it."""
+        while time.time() < self.end:
+            answered, copy = self.answered, alone(self.file)
+            plain = PlainFile(copy.read_bytes())
+            shown = sorted(run(self.program, copy, "list").stdout.splitlines())
+            run(self.program, copy, "flush")
+            again, test = run(self.program, copy, "list").stdout.splitlines(), run(self.program, copy, "fsck")
+            if not plain.listed() == shown == sorted(again) or test.returncode:
+                self.odd.append((plain.listed()[-1:], shown[-1:], test.stdout[-200:]))
+            self.told("copies", answered, plain.names.get("last"), len(plain.blobs))
+
+
+def beside(program, folder, seconds):
+    """Looks at a file and copies it while another process writes it."""
+    file = removed(folder / "beside.blobs")
+    run(program, file, "flush")
+    both = Beside(program, file, seconds)
+    threads = [threading.Thread(target=it) for it in (both.write, both.look, both.copy)]
+    for thread in threads:
+        thread.start()
+    for thread in threads:
+        thread.join()
+    counts = {kind: len(set(found)) for kind, found in both.found.items()}
+    if both.odd or min(counts.values()) < 3:
+        return f"beside a writer: {both.odd[:3]}, {counts}"
+    print(f"beside a writer of {both.answered} flushes: {len(both.found['looks'])} looks and {len(both.found['copies'])}"
+          " copies have all that was flushed before them, and nothing by half")
+    return None
+
+
 def full_disk(program, folder):
     """Lets no file grow past 400 kB."""
     file = removed(folder / "full.blobs")
     lines, roots = chain(2_000, 300, 5)
-
-    def limit():
-        signal.signal(signal.SIGXFSZ, signal.SIG_IGN)
-        resource.setrlimit(resource.RLIMIT_FSIZE, (400_000, 400_000))
-
-    filled = run(program, file, text=lines, preexec_fn=limit)
+    filled = run(program, file, text=lines, preexec_fn=lambda: limit_files(400_000))
     refused = [line for line in filled.stdout.splitlines() if line.startswith("error: the disk")]
     if not refused or filled.returncode:
         return f"full disk: {filled.returncode} {filled.stdout[-200:]}"
@@ -87,53 +156,35 @@ def full_disk(program, folder):
 
 
 def copies(program, folder):
-    """Copies a file alone after each command: the copy has to show all that the file shows."""
+    """Copies a file after each command: the copy has to show all that the file shows."""
     file, other = removed(folder / "source.blobs"), removed(folder / "other.blobs")
     lines, roots = chain(300, 300, 50)
     commands = [["put", "01"], ["root", "one", key_of(b"\x01")], ["stat"], ["list"], ["roots"], ["tree", roots[-1]],
                 ["dot", roots[-1]], ["fsck"], ["copy", other], ["drop", "last"], ["gc"], ["flush"]]
     run(program, file, text=lines)
     for words in [["fsck"], *commands]:
-        done = run(program, file, *words)
+        before, done = file.read_bytes(), run(program, file, *words)
         shown = seen(program, alone(file))
         if done.returncode or " 0 flaws\n" not in shown[1] or shown != seen(program, file):
             return f"copies: {done.stdout[-200:]}{done.stderr}; a copy behind '{words[0]}' shows {shown[1][-200:]}"
-        if words[0] == "copy" and shown != seen(program, alone(other)):
-            return "copies: what `copy` wrote isn't whole without its log"
+        if words[0] in ("stat", "list", "roots", "tree", "dot", "fsck", "copy") and file.read_bytes() != before:
+            return f"copies: '{words[0]}' wrote to the file"
+        if words[0] == "copy" and shown != seen(program, other):
+            return "copies: what `copy` wrote shows something else"
         file = alone(file).rename(removed(file))
-    print(f"copies: of the file alone, behind each of {len(commands)} commands, they have all")
+    if left := sorted(it.name for it in folder.glob("*-wal")):
+        return f"copies: {left} stand beside the files"
+    print(f"copies of the file, behind each of {len(commands)} commands, have all; what only looks writes nothing")
     return None
 
 
-def order(program, folder):
-    """Stores many small blobs in one flush, which writes them in the order of their places, and so each page once or
-    twice."""
-    file, count, size = removed(folder / "order.blobs"), 20_000, 600
-    lines = "".join(f"put {DRAWN.randbytes(size).hex()}\n" for _ in range(count))
-    with open(folder / "said", "w", encoding="utf-8") as said:
-        with subprocess.Popen([program, file], stdin=subprocess.PIPE, stdout=said, text=True) as writing:
-            writing.stdin.write(f"{lines}flush\n")
-            writing.stdin.flush()
-            wait_until(lambda: (folder / "said").read_text(encoding="utf-8").endswith("flushed\n"), writing)
-            wrote = log_of(file).stat().st_size
-            writing.stdin.close()
-    if not count * size < wrote < 2 * count * size:
-        return f"order: one flush of {count * size} bytes wrote a log of {wrote}"
-    print(f"order: one flush of {count} blobs of {size} bytes wrote a log of {wrote} bytes")
-    return None
-
-
-def shell(program, folder):
-    """Reads a file by SQLite's own shell."""
-    file = removed(folder / "shell.blobs")
-    lines, roots = chain(100, 300, 100)
-    run(program, file, text=lines)
-    asked = "PRAGMA integrity_check; SELECT count(*), sum(length(bytes)) FROM blobs;"
-    asked += "SELECT name, lower(hex(key)) FROM roots;"
-    said = subprocess.run(["sqlite3", file, asked], capture_output=True, text=True, check=False)
-    if said.stdout.splitlines() != ["ok", "100|30000", f"last|{roots[-1]}"]:
-        return f"sqlite3: {said.stdout}{said.stderr}"
-    print("sqlite3: its integrity check finds nothing, and it reads the blobs and the root")
+def size(program, folder):
+    """Stores many small blobs in one flush, which writes their bytes and 24 for each."""
+    file, count, each = removed(folder / "size.blobs"), 20_000, 600
+    run(program, file, text="".join(f"put {DRAWN.randbytes(each).hex()}\n" for _ in range(count)) + "flush\n")
+    if file.stat().st_size != 16 + 25 + count * (each + 24) + 1:
+        return f"size: one flush of {count * each} bytes made a file of {file.stat().st_size}"
+    print(f"size: one flush of {count} blobs of {each} bytes made a file of {file.stat().st_size} bytes")
     return None
 
 
@@ -214,7 +265,7 @@ def texts(program, folder):
         return f"texts: {roots}{test.stdout}"
     if run(program, "texts", folder / "none" / "texts.blobs").returncode != 1:
         return "texts: a file in a folder that isn't there was opened"
-    print(f"texts: {len(TEXTS)} runs, each on a copy of the file alone, with what was flushed before, and no more")
+    print(f"texts: {len(TEXTS)} runs, each on a copy of the file, with what was flushed before, and no more")
     return None
 
 
@@ -224,8 +275,10 @@ def statuses(program, folder):
     key = run(program, file, "put", "01").stdout.split()[0]
     usage, missing = ("", "usage: blobctl FILE ["), ("", f"blobctl: {none}: there is no such file\n")
     bare = [["texts"], ["-f"], [none, "stats"], [none, "stat", "more"], [none, "tree"], [none, "copy"], [none, "put"]]
+    bare += [["import-old"], ["import-old", none], ["import-old", file, none, none], [none, "export-db"], [none, ""]]
     wanted = [(words, 2, usage) for words in [[], *bare]]
-    for words in (["stat"], ["list"], ["roots"], ["tree", key], ["dot", key], ["fsck"], ["copy", file], ["gc"]):
+    looks = (["stat"], ["list"], ["roots"], ["tree", key], ["dot", key], ["fsck"], ["copy", file], ["export-db", file])
+    for words in (*looks, ["gc"]):
         wanted.append(([none, *words], 1, missing))
     wanted += [([file, "tree", "no"], 1, ("bad line\n", "")), ([file, "put", "0"], 1, ("bad line\n", ""))]
     for words, status, (said, why) in wanted:
@@ -237,17 +290,17 @@ def statuses(program, folder):
 
 
 def main():
-    rounds, step, seconds, seed = [*map(int, sys.argv[2:]), *[20, 80, 5, 5][len(sys.argv[2:]) :]]
-    if not damages.shell_is_there():
-        sys.exit("install sqlite3: its shell has to read and change files of blobs")
+    rounds, seconds, seed = [*map(int, sys.argv[2:]), *[40, 10, 5][len(sys.argv[2:]) :]]
+    need("sqlite3")
     DRAWN.seed(seed)
     with tempfile.TemporaryDirectory() as folder:
         folder = pathlib.Path(folder)
         program = pathlib.Path(sys.argv[1]).resolve() if len(sys.argv) > 1 else built_crate(folder / "build", "blobctl")
         tests = [
             (kills, rounds), (collecting.kills, rounds), (collecting.race, seconds), (collecting.keeps,),
-            (damages.opens,), (damages.rows,), (damages.pages, step),
-            (copies,), (order,), (full_disk,), (shell,), (texts,), (statuses,),
+            (beside, seconds), (damages.opens,), (damages.flaws,), (damages.each_byte,), (damages.each_length,),
+            (access.rights,), (access.links,), (access.names,), (databases.imports,), (databases.exports,),
+            (copies,), (size,), (full_disk,), (texts,), (statuses,),
         ]
         faults = [test(program, folder, *words) for test, *words in tests]
     if any(faults):

@@ -1,24 +1,22 @@
-"""Tries `blobctl FILE gc`: beside writers, killed at drawn moments and between its last steps, and what it keeps and
+"""Tries `blobctl FILE gc`: beside writers, killed at drawn moments and behind the rename, and what it keeps and
 refuses."""
 import os
-import resource
-import signal
 import subprocess
 import threading
 import time
 
-from asking import DRAWN, alone, chain, key_of, kill, log_of, removed, run, seen, wait_until
+from asking import DRAWN, chain, key_of, kill, limit_files, removed, run, seen, wait_until
 
-# When a `gc` is killed: at a drawn moment; once FILE's log is gone; once FILE is another file.
-DRAWN_MOMENT, NO_LOG, REPLACED = range(3)
+# When a `gc` is killed: at a drawn moment; once FILE.new holds blobs; once FILE is another file.
+DRAWN_MOMENT, HALF_COPIED, REPLACED = range(3)
 
 
 class Race:
-    """Two writers of a file, and a loop of gc beside them."""
+    """Two writers of a file, a loop of gc beside them, and one of looks at the file."""
 
     def __init__(self, program, file, seconds):
         self.program, self.file, self.end = program, file, time.time() + seconds
-        self.flushed, self.collected, self.refused, self.odd = {}, [], [], []
+        self.flushed, self.collected, self.refused, self.looks, self.odd = {}, [], [], [], []
 
     def refuse(self, done):
         """Notes a run that was refused, and keeps what it said if that is odd."""
@@ -46,10 +44,17 @@ class Race:
             else:
                 self.refuse(done)
 
+    def look(self):
+        """Tests the file, again and again, which takes no lock: it is whole at each moment."""
+        while time.time() < self.end:
+            done = run(self.program, self.file, "fsck")
+            kept = self.looks if done.returncode == 0 and done.stdout.endswith(" 0 flaws\n") else self.odd
+            kept.append((done.returncode, done.stdout, done.stderr))
+
     def run(self):
-        """Runs all three to the end."""
+        """Runs all four to the end."""
         threads = [threading.Thread(target=self.write, args=(name,)) for name in "ab"]
-        threads.append(threading.Thread(target=self.collect))
+        threads += [threading.Thread(target=self.collect), threading.Thread(target=self.look)]
         for thread in threads:
             thread.start()
         for thread in threads:
@@ -64,38 +69,41 @@ def race(program, folder, seconds):
     runs.run()
     roots = dict(line.rsplit(" ", 1) for line in run(program, file, "roots").stdout.splitlines())
     gone = sorted(name for name, key in runs.flushed.items() if roots.get(name) != key)
-    test = run(program, alone(file), "fsck")
+    test = run(program, file, "fsck")
     if gone or test.returncode or runs.odd:
         return f"gc beside writers: gone {gone[:5]}, fsck {test.stdout[-200:]}{test.stderr[-200:]}, odd {runs.odd[:3]}"
-    met = [len(runs.collected), len(runs.flushed), len(runs.refused)]
+    met = [len(runs.collected), len(runs.flushed), len(runs.refused), len(runs.looks)]
     if min(met) < 3:
-        return f"gc beside writers: of gc, flushes and refusals only {met} in {seconds} s"
-    print(f"gc beside two writers for {seconds} s: {met[0]} gc, {met[1]} flushes, {met[2]} times in use, nothing gone")
+        return f"gc beside writers: of gc, flushes, refusals and looks only {met} in {seconds} s"
+    print(f"gc beside two writers for {seconds} s: {met[0]} gc, {met[1]} flushes, {met[2]} times in use, {met[3]} looks,"
+          " nothing gone")
     return None
-
-
-def leave_log(program, file, name):
-    """Stores a blob under a name, and another one under none, and is killed with all of it in the log."""
-    data = name.encode()
-    with subprocess.Popen([program, file], stdin=subprocess.PIPE, stdout=subprocess.PIPE, text=True) as writing:
-        writing.stdin.write(f"put {data.hex()}\nput ff{data.hex()}\nroot {name} {key_of(data)}\nflush\n")
-        writing.stdin.flush()
-        said = [writing.stdout.readline().strip() for _ in range(4)]
-        met = kill(writing)
-    return met and said[3] == "flushed" and log_of(file).stat().st_size > 4096
 
 
 def kill_gc(program, file, moment, whole):
     """Kills a gc at such a moment, and says whether it still ran."""
-    number = file.stat().st_ino
+    number, new = file.stat().st_ino, new_of(file)
     with subprocess.Popen([program, file, "gc"], stdout=subprocess.DEVNULL, stderr=subprocess.DEVNULL) as collecting:
         if moment == DRAWN_MOMENT:
             time.sleep(DRAWN.uniform(0, 1.1 * whole))
-        elif moment == NO_LOG:
-            wait_until(lambda: not log_of(file).exists(), collecting)
+        elif moment == HALF_COPIED:
+            wait_until(lambda: size_of(new) > 1000, collecting)
         else:
             wait_until(lambda: file.stat().st_ino != number, collecting)
         return kill(collecting)
+
+
+def new_of(file):
+    """The path of the new file of a gc."""
+    return file.with_name(f"{file.name}.new")
+
+
+def size_of(file):
+    """The size of a file, 0 if there is none."""
+    try:
+        return file.stat().st_size
+    except FileNotFoundError:
+        return 0
 
 
 def refused_beside(program, file, new):
@@ -107,11 +115,11 @@ def refused_beside(program, file, new):
 
 def kept_by_killed(program, file, names, count):
     """What is wrong behind a gc that was killed, or None. What it left beside the file is removed, as gc asks."""
-    new = file.with_name(f"{file.name}.new")
-    for left in [it for it in (new, log_of(new)) if it.exists()]:
-        if not refused_beside(program, file, left):
-            return f"a gc beside {left.name} isn't refused by its name"
-        left.unlink()
+    new = new_of(file)
+    if new.exists():
+        if not refused_beside(program, file, new):
+            return f"a gc beside {new.name} isn't refused by its name"
+        new.unlink()
     test = run(program, file, "fsck")
     roots = dict(line.split() for line in run(program, file, "roots").stdout.splitlines())
     many = len(run(program, file, "tree", names["main"]).stdout.splitlines())
@@ -122,7 +130,7 @@ def kept_by_killed(program, file, names, count):
 
 
 def kills(program, folder, rounds):
-    """Kills gc of a file with a log: the file has to keep what its roots reach."""
+    """Kills gc of a file: the file has to keep what its roots reach."""
     file, count = removed(folder / "collected.blobs"), 1_000
     lines, roots = chain(count, 600, count)
     run(program, file, text=lines.replace("root last", "root main"))
@@ -131,24 +139,21 @@ def kills(program, folder, rounds):
     whole, names, states, turns = time.time() - begun, {"main": roots[-1]}, [], 0
     while len(states) < rounds and turns < 10 * rounds:
         turns += 1
-        name, moment = f"r{turns}", turns % 3
-        names[name] = key_of(name.encode())
-        if not leave_log(program, file, name):
-            return f"gc killed, turn {turns}: the writer before it wasn't killed with a log"
+        data = f"r{turns}".encode()
+        names[data.decode()] = key_of(data)
+        run(program, file, text=f"put {data.hex()}\nput ff{data.hex()}\nroot r{turns} {key_of(data)}\nflush\n")
         number = file.stat().st_ino
-        met, has_log = kill_gc(program, file, moment, whole), log_of(file).exists()
+        met, is_half = kill_gc(program, file, turns % 3, whole), size_of(new_of(file)) > 1000
         is_old = file.stat().st_ino == number
-        if has_log and not is_old:
-            return f"gc killed, turn {turns}: the new file stands beside a log"
-        states += [NO_LOG if is_old and not has_log else DRAWN_MOMENT if is_old else REPLACED] if met else []
+        states += [REPLACED if not is_old else HALF_COPIED if is_half else DRAWN_MOMENT] if met else []
         fault = kept_by_killed(program, file, names, count)
         if fault:
             return f"gc killed, turn {turns}: {fault}"
-    met = [states.count(state) for state in (DRAWN_MOMENT, NO_LOG, REPLACED)]
-    if len(states) < rounds or not all(met):
-        return f"gc killed: of {turns} kills {met} met one before FILE's log was gone, then, and behind the rename"
-    print(f"gc killed: {sum(met)} kills of a running one, {met[0]} before FILE's log was gone, {met[1]} then, {met[2]}"
-          " behind the rename: nothing lost")
+    met = [states.count(state) for state in (DRAWN_MOMENT, HALF_COPIED, REPLACED)]
+    if len(states) < rounds or not all(met[1:]):
+        return f"gc killed: of {turns} kills {met} met one before the copy, in it, and behind the rename"
+    print(f"gc killed: {sum(met)} kills of a running one, {met[0]} before the copy, {met[1]} in it, {met[2]} behind the"
+          " rename: nothing lost")
     return None
 
 
@@ -177,22 +182,38 @@ def access(program, file, shown):
 
 
 def refusals(program, file, shown):
-    """Whether gc is refused beside a file that isn't its own, and fails on a full disk, and leaves all as it was."""
-    new = file.with_name(f"{file.name}.new")
-    for taken in (new, log_of(new)):
-        taken.write_text("mine", encoding="utf-8")
-        if not refused_beside(program, file, taken):
-            return f"gc beside {taken.name} isn't refused by its name"
-        taken.unlink()
-
-    def limit():
-        signal.signal(signal.SIGXFSZ, signal.SIG_IGN)
-        resource.setrlimit(resource.RLIMIT_FSIZE, (20_000, 20_000))
-
-    done = run(program, file, "gc", preexec_fn=limit)
-    if done.returncode != 1 or new.exists() or log_of(new).exists():
+    """Whether gc is refused beside a file that isn't its own and of a file with two names, fails on a full disk, and
+    leaves all as it was."""
+    new, other, before = new_of(file), file.with_name("other name"), file.read_bytes()
+    log = file.with_name(f"{file.name}-wal")
+    log.write_text("mine", encoding="utf-8")
+    for taken in (lambda: new.write_text("mine", encoding="utf-8"), lambda: new.symlink_to("nothing")):
+        taken()
+        done = run(program, file, "gc")
+        if done.returncode != 1 or f"{new} is there already" not in done.stdout or not os.path.lexists(new):
+            return f"gc beside {new.name}: {done.stdout}{done.stderr}"
+        new.unlink()
+    os.link(file, other)
+    done = run(program, file, "gc")
+    if done.returncode != 1 or "the file has 2 names" not in done.stdout or new.exists():
+        return f"gc of a file with two names: {done.stdout}{done.stderr}"
+    other.unlink()
+    done = run(program, file, "gc", preexec_fn=lambda: limit_files(20_000))
+    if done.returncode != 1 or "the disk failed" not in done.stdout or new.exists():
         return f"gc on a full disk: {done.stdout}{done.stderr}"
+    if log.read_text(encoding="utf-8") != "mine" or file.read_bytes() != before:
+        return "gc that was refused: a file has changed"
     return shows_same(program, file, shown, "a gc that failed")
+
+
+def garbage(program, file):
+    """What a gc of a file leaves out, and that it asks for a file."""
+    run(program, file, text=f"put {'00' * 5000}\nflush\n")
+    before, blobs = file.stat().st_size, len(run(program, file, "list").stdout.splitlines())
+    done = run(program, file, "gc")
+    if done.stdout != f"{blobs - 1} blobs kept\n" or file.stat().st_size > before - 5000:
+        return f"gc: {done.stdout} of {blobs}, {file.stat().st_size} bytes of {before}"
+    return None
 
 
 def keeps(program, folder):
@@ -201,7 +222,9 @@ def keeps(program, folder):
     lines, _ = chain(100, 300, 100)
     run(program, file, text=lines)
     shown = seen(program, file)
-    fault = access(program, file, shown) or refusals(program, file, shown)
+    fault = access(program, file, shown) or refusals(program, file, shown) or garbage(program, file)
+    fault = fault or shows_same(program, file, shown, "a gc of what no root reaches")
     if not fault:
-        print("gc keeps mode, owner and link, and is refused by name beside a file that isn't its own")
+        print("gc keeps mode, owner and link, leaves out what no root reaches, and is refused by name beside a file that"
+              " isn't its own and of a file with two names")
     return fault

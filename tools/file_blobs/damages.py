@@ -1,80 +1,60 @@
-"""Damages files of blobs: bytes of pages, with the pages' sums made right again or not, and rows, by SQLite's shell.
+"""Damages files of blobs: each byte of a small file in turn, and files that another program made, with flaws past the
+sums; and opens what is no file of blobs, or may not be opened.
 
-Each flaw that `fsck` tells, and each cause for which a file isn't opened, has to be met.
+What a damaged file shows is compared with what plain_file.py reads of it. Each flaw that `fsck` tells, and each cause
+for which a file isn't opened, has to be met.
 """
-import hashlib
+import os
 import pathlib
 import re
 import resource
-import shutil
-import signal
-import struct
 import subprocess
 
-from asking import chain, key_of, log_of, removed, run, seen
+from asking import limit_files, removed, run
+from plain_file import PlainFile, Refused, batch, blob, file_of, key_of
 
 SOURCE = pathlib.Path(__file__).resolve().parent.parent.parent / "crates" / "pagable_file" / "src"
-PAGE, SUM = 4096, 8
-# A chain of three blobs, each over the one before, and the places of the second one and of the name of the last.
-DATA = [b"first", b"second", b"third"]
-KEYS = [key_of(DATA[0])]
-KEYS += [key_of(DATA[1], KEYS[:1])]
-KEYS += [key_of(DATA[2], KEYS[1:2])]
-ABSENT = key_of(b"absent")
-
-
-def place(digest):
-    """The place of a row: 63 bits of its key, or of its name's hash."""
-    return int.from_bytes(digest[:8], "little") % 2**63
-
-
-PLACE, NAME_PLACE = place(bytes.fromhex(KEYS[1])), place(hashlib.sha256(b"main").digest())
-
-
-# For each change of rows, by SQLite's words, the flaws that the file then has, in any order.
-ROWS = {
-    f"UPDATE blobs SET bytes = x'00' WHERE key = x'{KEYS[1]}'": [f"{KEYS[1]} has another key"],
-    f"UPDATE blobs SET key = x'{ABSENT}' WHERE key = x'{KEYS[1]}'": [
-        f"the row of blobs at {PLACE} is no key's",
-        f"{KEYS[2]} refers to {KEYS[1]}, which is missing",
-    ],
-    f"UPDATE blobs SET children = x'{ABSENT}' WHERE key = x'{KEYS[2]}'": [
-        f"{KEYS[2]} has another key",
-        f"{KEYS[2]} refers to {ABSENT}, which is missing",
-    ],
-    f"UPDATE blobs SET children = x'00' WHERE key = x'{KEYS[2]}'": [
-        f"the row of blobs at {place(bytes.fromhex(KEYS[2]))} is no key's",
-        f"root main is {KEYS[2]}, which is missing",
-    ],
-    f"DELETE FROM blobs WHERE key = x'{KEYS[0]}'": [f"{KEYS[1]} refers to {KEYS[0]}, which is missing"],
-    f"DELETE FROM blobs WHERE key = x'{KEYS[2]}'": [f"root main is {KEYS[2]}, which is missing"],
-    f"INSERT INTO blobs SELECT 17, key, bytes, children FROM blobs WHERE key = x'{KEYS[0]}'": [
-        "the row of blobs at 17 is no key's"
-    ],
-    f"UPDATE roots SET key = x'{ABSENT}'": [f"root main is {ABSENT}, which is missing"],
-    "UPDATE roots SET name = 'other'": [f"the row of roots at {NAME_PLACE} is no name's"],
-    f"INSERT INTO roots VALUES (18, 'main', x'{KEYS[0]}')": ["the row of roots at 18 is no name's"],
+# A chain of three blobs, each over the one before, and one that is nowhere.
+FIRST = blob(b"first")
+SECOND = blob(b"second", [FIRST[0]])
+THIRD = blob(b"third", [SECOND[0]])
+ABSENT = blob(b"absent")[0]
+OTHER = "07" * 16
+# What `fsck` has to tell of files, each by its blobs and its names.
+FLAWED = [
+    ([FIRST, SECOND, THIRD], [(b"main", THIRD[0])], []),
+    ([FIRST, (SECOND[0], 1, SECOND[2][:-1] + b"D")], [], [f"{SECOND[0]} has another key"]),
+    ([(OTHER, *FIRST[1:])], [(b"main", OTHER)], [f"{OTHER} has another key"]),
+    ([(SECOND[0], 0, SECOND[2])], [], [f"{SECOND[0]} has another key"]),
+    ([SECOND, THIRD], [], [f"{SECOND[0]} refers to {FIRST[0]}, which is missing"]),
+    ([blob(b"", [ABSENT, ABSENT])], [], [f"{blob(b'', [ABSENT, ABSENT])[0]} refers to {ABSENT}, which is missing"] * 2),
+    ([FIRST], [(b"main", ABSENT), (b"other", FIRST[0])], [f"root main is {ABSENT}, which is missing"]),
+    ([FIRST], [(b"a\nb", ABSENT)], [f"root a\\nb is {ABSENT}, which is missing"]),
+    ([(OTHER, 1, bytes(16) + b"x")], [(b"main", OTHER)], [f"what stands under {OTHER} is no blob"]),
+    ([("00" * 16, *FIRST[1:])], [], [f"what stands under {'00' * 16} is no blob"]),
+    ([(OTHER, 1, SECOND[2])], [], [f"{OTHER} has another key", f"{OTHER} refers to {FIRST[0]}, which is missing"]),
+]
+# For each kind of flaw, a pattern of the lines that tell it.
+FLAWS = {
+    "StrayBlob": r"what stands under [0-9a-f]{32} is no blob",
+    "WrongKey": r"[0-9a-f]{32} has another key",
+    "MissingChild": r"[0-9a-f]{32} refers to [0-9a-f]{32}, which is missing",
+    "MissingRoot": r"root \S+ is [0-9a-f]{32}, which is missing",
 }
-
-# For each cause for which a file isn't opened, what is said of it.
+# For each cause for which a file isn't opened, what is said of it. (tools/host_files meets Replaced.)
 CAUSES = {
     "OutOfMemory": "out of memory",
     "InUse": "the file is in use",
-    "CannotOpen": "the file cannot be opened",
+    "NotAFile": "the path names no regular file",
+    "MayNotWrite": "the file may not be written",
+    "MayNotRead": "the file may not be read",
+    "Missing": "there is no such file",
+    "FolderMissing": "there is no such folder",
     "NotBlobs": "the file is none of blobs",
-    "Newer": "the file has the newer version 7",
-    "Io": "the disk failed",
     "Damaged": "the file is damaged",
-    "Full": "the disk is full",
+    "Io": "the disk failed",
 }
-# For each kind of flaw, a pattern of the lines that tell it.
-FLAWS = {
-    "StrayBlob": r"the row of blobs at \d+ is no key's",
-    "WrongKey": r"[0-9a-f]{32} has another key",
-    "MissingChild": r"[0-9a-f]{32} refers to [0-9a-f]{32}, which is missing",
-    "StrayRoot": r"the row of roots at \d+ is no name's",
-    "MissingRoot": r"root \w+ is [0-9a-f]{32}, which is missing",
-}
+NOBODY = 65534
 
 
 def variants(file, name):
@@ -83,81 +63,101 @@ def variants(file, name):
     return set(re.findall(r"(?m)^    (\w+)", re.search(rf"pub enum {name} {{(.*?)\n}}", text, re.S)[1]))
 
 
-def sum_of(page):
-    """The sum of a page, as SQLite's cksumvfs makes it."""
-    low = high = 0
-    for first, second in struct.iter_unpack("<II", page[:-SUM]):
-        low = (low + first + high) % 2**32
-        high = (high + second + low) % 2**32
-    return struct.pack("<II", low, high)
+def flaws_of(program, file):
+    """The flaws that `fsck` tells of a file."""
+    return run(program, file, "fsck").stdout.splitlines()[:-1]
 
 
-def summed(content):
-    """The content of a file, with the sum of each page made right."""
-    pages = [content[at : at + PAGE] for at in range(0, len(content), PAGE)]
-    return b"".join(page[:-SUM] + sum_of(page) for page in pages)
-
-
-def turned(content, at):
-    """The content with some bits of a byte turned."""
-    return content[:at] + bytes([content[at] ^ 0x41]) + content[at + 1 :]
-
-
-def made(program, file):
-    """A closed file of the three blobs and the name."""
-    words = [[data.hex(), *KEYS[:number][-1:]] for number, data in enumerate(DATA)]
-    lines = [" ".join(["put", *line]) for line in words] + [f"root main {KEYS[2]}", "flush"]
-    said = run(program, removed(file), text="\n".join(lines) + "\n")
-    if said.stdout.split() != [*KEYS, "set", "flushed"]:
-        raise SystemExit(f"three blobs: {said.stdout}{said.stderr}")
-    return file.read_bytes()
-
-
-def changed(content, file, words):
-    """Writes a file, changes it by SQLite's shell, and makes its sums right again."""
-    removed(file).write_bytes(content)
-    subprocess.run(["sqlite3", file, words], check=True, capture_output=True, timeout=100)
-    file.write_bytes(summed(file.read_bytes()))
-    return file
-
-
-def rows(program, folder):
-    """Changes rows: `fsck` has to name each flaw that comes of it, and no other."""
-    content, file, met = made(program, folder / "rows.blobs"), folder / "changed.blobs", []
-    if summed(content) != content:
-        return "rows: the sums of pages aren't those of cksumvfs"
-    for words, wanted in ROWS.items():
-        test = run(program, changed(content, file, words), "fsck")
+def flaws(program, folder):
+    """Tests files with flaws that no sum tells: `fsck` has to name each, and no other."""
+    file, met = folder / "flawed.blobs", []
+    for blobs, names, wanted in FLAWED:
+        file.write_bytes(file_of(batch(blobs, names)))
+        test = run(program, file, "fsck")
         found = test.stdout.splitlines()[:-1]
-        if test.returncode != 1 or sorted(found) != sorted(wanted):
-            return f"rows: '{words}' makes {found} in place of {wanted}; {test.stderr}"
+        if sorted(found) != sorted(wanted) or test.returncode != int(bool(wanted)):
+            return f"flaws: {found} in place of {wanted}; {test.stderr}"
         met += found
     kinds = {kind for kind, line in FLAWS.items() if any(re.fullmatch(line, it) for it in met)}
     if kinds != variants("fsck.rt", "Flaw"):
-        return f"rows: of the flaws {variants('fsck.rt', 'Flaw')} only {kinds} were met"
-    print(f"changes of rows: fsck names the {len(met)} flaws of {len(ROWS)} changes, of {len(kinds)} kinds")
+        return f"flaws: of {variants('fsck.rt', 'Flaw')} only {kinds} were met"
+    print(f"flaws: fsck names the {len(met)} flaws of {len(FLAWED)} files, of {len(kinds)} kinds")
     return None
 
 
-def pages(program, folder, step):
-    """Turns bits of each so many bytes of a closed file, and makes the sums right again in every second round."""
-    whole, file = folder / "whole.blobs", folder / "damaged.blobs"
-    lines, _ = chain(12, 900, 3)
-    run(program, removed(whole), text=lines)
-    content, shown = whole.read_bytes(), seen(program, whole)
-    counts = {(kept, what): 0 for kept in ("sums wrong", "sums right") for what in ("refused", "named", "unseen")}
-    for number, at in enumerate(range(0, len(content), step)):
-        kept, bad = "sums right" if number % 2 else "sums wrong", turned(content, at)
-        removed(file).write_bytes(summed(bad) if number % 2 else bad)
-        found = seen(program, file)
-        what = "refused" if found[0] else "unseen" if " 0 flaws\n" in found[1] else "named"
-        if what == "unseen" and found != shown:
-            return f"damage of byte {at}, {kept}: fsck finds nothing, and the file shows something else"
-        counts[kept, what] += 1
-    if not all(counts[it] for it in [("sums wrong", "refused"), ("sums right", "refused"), ("sums right", "named")]):
-        return f"damage: a kind was never met: {counts}"
-    said = ", ".join(f"{kept} {what} {count}" for (kept, what), count in counts.items())
-    print(f"damage of {sum(counts.values())} bytes of {len(content)}: {said}")
+def looked(program, file):
+    """What a file shows: its blobs, names and flaws, or why it isn't opened."""
+    shown = [run(program, file, word) for word in ("list", "roots", "fsck")]
+    if any("blobctl:" in it.stderr for it in shown):
+        return {it.stderr.strip().rpartition(": ")[2] for it in shown}
+    listed, roots, test = [it.stdout.splitlines() for it in shown]
+    return sorted(listed), sorted(roots), sorted(test[:-1])
+
+
+def plainly(content):
+    """The same of a file with this content, by plain_file.py."""
+    try:
+        plain = PlainFile(content)
+    except Refused as refused:
+        return {str(refused)}
+    found = []
+    for key, (children, body) in plain.blobs.items():
+        found += [f"{key} has another key"] if key_of(body, children) != key else []
+        missing = [it for it in plain.children(key) if it not in plain.blobs]
+        found += [f"{key} refers to {it}, which is missing" for it in missing]
+    found += [f"root {name} is {key}, which is missing" for name, key in plain.names.items() if key not in plain.blobs]
+    return plain.listed(), plain.roots(), sorted(found)
+
+
+def small(program, file):
+    """A file of three batches that the program made: the last takes a name away."""
+    lines = ["put 6669727374", f"root main {FIRST[0]}", f"root side {FIRST[0]}", "flush"]
+    lines += [f"put 7365636f6e64 {FIRST[0]}", f"root main {SECOND[0]}", "flush", "drop side", "flush"]
+    run(program, removed(file), text="\n".join(lines) + "\n")
+    content = file.read_bytes()
+    by_hand = file_of(
+        batch([FIRST], [(b"main", FIRST[0]), (b"side", FIRST[0])]),
+        batch([SECOND], [(b"main", SECOND[0])]),
+        batch([], [(b"side", None)]),
+    )
+    return content, by_hand
+
+
+def each_byte(program, folder):
+    """Changes each byte of a small file in turn: the file shows what plain_file.py reads of it."""
+    content, by_hand = small(program, folder / "small.blobs")
+    if content != by_hand:
+        return f"each byte: the program made {content}, by hand it is {by_hand}"
+    file, whole, counts = folder / "byte.blobs", plainly(content), {}
+    for at, byte in enumerate(content):
+        turned = byte ^ (0x01, 0x41, 0xFF)[at % 3]
+        bad = content[:at] + bytes([turned]) + content[at + 1 :]
+        file.write_bytes(bad)
+        found, wanted = looked(program, file), plainly(bad)
+        if found != wanted or file.read_bytes() != bad:
+            return f"byte {at} of {len(content)} made {turned}: {found} in place of {wanted}"
+        kind = "refused" if isinstance(found, set) else "named" if found[2] else "unseen" if found == whole else "hidden"
+        counts[kind] = counts.get(kind, 0) + 1
+    if counts.keys() != {"refused", "named", "unseen", "hidden"} or counts["unseen"] != 1:
+        return f"each byte: {counts}"
+    said = ", ".join(f"{kind} {count}" for kind, count in counts.items())
+    print(f"each of {len(content)} bytes changed, as plain_file.py has it: {said}")
+    return None
+
+
+def each_length(program, folder):
+    """Cuts a small file at each length: it shows its whole batches, also once it was opened to be written."""
+    content, _ = small(program, folder / "whole.blobs")
+    file = folder / "cut.blobs"
+    for length in range(len(content)):
+        file.write_bytes(content[:length])
+        wanted = plainly(content[:length])
+        found = looked(program, file)
+        run(program, file, text="")
+        again = looked(program, file)
+        if not found == again == wanted:
+            return f"cut at {length}: {found}, and {again} once it was opened, in place of {wanted}"
+    print(f"cut at each of {len(content)} lengths: whole batches are shown, and no other")
     return None
 
 
@@ -167,66 +167,53 @@ def in_use(program, file):
         first.stdin.write("put 01\n")
         first.stdin.flush()
         first.stdout.readline()
-        said = run(program, file, "stat")
+        said = run(program, file, "flush")
         first.stdin.close()
     return said
 
 
-def limited(program, file, kind, most):
-    """Opens a file, which is made if there is none, under a limit."""
-
-    def limit():
-        signal.signal(signal.SIGXFSZ, signal.SIG_IGN)
-        resource.setrlimit(kind, (most, most))
-
-    return run(program, file, "flush", preexec_fn=limit)
-
-
 def without_memory(program, file):
-    """Opens a file with less and less memory, until that isn't enough."""
-    most = 2**26
-    said = limited(program, file, resource.RLIMIT_AS, most)
+    """Opens a file of many blobs with less and less memory, until that isn't enough."""
+    file.write_bytes(file_of(batch([(f"{number:032x}", 0, b"") for number in range(1, 20_000)])))
+    most = 2**25
+    limit = lambda: resource.setrlimit(resource.RLIMIT_AS, (most, most))
+    said = run(program, file, "flush", preexec_fn=limit)
     while said.returncode == 0 and most > 2**16:
-        most = most * 9 // 10
-        said = limited(program, file, resource.RLIMIT_AS, most)
+        most = most * 49 // 50
+        said = run(program, file, "flush", preexec_fn=limit)
     return said
 
 
-def on_full_disk(program, file):
-    """Opens a new file on a disk of 64 kB, in a space of names of its own."""
-    script = 'mount -t tmpfs -o size=64k none "$1" && exec "$2" "$1/full.blobs" flush'
-    words = ["unshare", "--user", "--map-root-user", "--mount", "sh", "-c", script, "sh", file.parent, program]
-    return subprocess.run(words, capture_output=True, text=True, check=False, timeout=100)
-
-
 def opens(program, folder):
-    """Opens files for which each cause of a refusal holds: it has to be named, and a file has to stay as it is."""
-    file, folder = folder / "opened.blobs", folder / "empty"
-    content = made(program, file)
-    folder.mkdir()
-    change = lambda words: run(program, changed(content, file.with_name("other.blobs"), words), "stat")
-    damaged = removed(file.with_name("damaged.blobs"))
-    damaged.write_bytes(turned(content, 100))
+    """Opens files for which each cause of a refusal holds: it has to be named, and what is there stays as it is."""
+    inner = folder / "opened"
+    inner.mkdir()
+    folder.chmod(0o755)
+    plain = {"user": NOBODY, "group": NOBODY, "extra_groups": []} if os.geteuid() == 0 else {}
+    whole, other, damaged, shut, fresh = (inner / name for name in ("whole", "other", "damaged", "shut", "fresh"))
+    content = file_of(batch([FIRST]))
+    bad = content[:33] + b"?" + content[34:]
+    for file, text in ((whole, content), (other, b"no blobs"), (damaged, bad), (shut, content)):
+        file.write_bytes(text)
+    shut.chmod(0)
     said = {
-        "OutOfMemory": without_memory(program, file),
-        "InUse": in_use(program, file),
-        "CannotOpen": run(program, folder / "none" / "a.blobs", "flush"),
-        "NotBlobs": change("CREATE TABLE other (a)"),
-        "Newer": change("PRAGMA user_version = 7"),
-        "Io": limited(program, folder / "new.blobs", resource.RLIMIT_FSIZE, 0),
+        "OutOfMemory": without_memory(program, inner / "many"),
+        "InUse": in_use(program, whole),
+        "NotAFile": run(program, inner, "stat"),
+        "MayNotWrite": run(program, shut, "flush", **plain),
+        "MayNotRead": run(program, shut, "stat", **plain),
+        "Missing": run(program, fresh, "stat"),
+        "FolderMissing": run(program, fresh / "a", "flush"),
+        "NotBlobs": run(program, other, "stat"),
         "Damaged": run(program, damaged, "stat"),
-        "Full": on_full_disk(program, folder / "full.blobs"),
+        "Io": run(program, fresh, "flush", preexec_fn=lambda: limit_files(0)),
     }
-    wrong = [f"{cause}: {it.stdout}{it.stderr}" for cause, it in said.items() if CAUSES[cause] not in it.stderr]
-    wrong += [f"no test meets {cause}" for cause in variants("open_error.rt", "OpenError") ^ set(said)]
+    wrong = [f"{cause}: {it.stdout}{it.stderr}" for cause, it in said.items()
+             if not it.stderr.endswith(f": {CAUSES[cause]}\n") or it.stdout or it.returncode != 1]
+    wrong += [f"no test meets {cause}" for cause in (variants("open_error.rt", "OpenError") ^ set(said)) - {"Replaced"}]
+    if [whole.read_bytes(), other.read_bytes(), damaged.read_bytes()] != [content, b"no blobs", bad]:
+        wrong.append("a file that was refused has changed")
     if wrong:
         return f"opens: {'; '.join(wrong)}"
-    if damaged.read_bytes() != turned(content, 100):
-        return "opens: a file that was refused has changed"
     print(f"opens: each of {len(said)} causes is named")
     return None
-
-
-def shell_is_there():
-    """Whether SQLite's shell can be called."""
-    return bool(shutil.which("sqlite3"))

@@ -16,10 +16,7 @@ HERE = pathlib.Path(__file__).resolve().parent
 sys.path.insert(0, str(HERE.parent / "speed"))
 from build import TOP, compiled_in, source_in
 
-USES = (
-    "pagable_value_spec pagable_flavors pagable_codec pagable_core pagable_file sqlite sqlite_disk sqlite_store"
-    " sqlite_trees sqlite_value sqlite_wal anyhow"
-)
+USES = "pagable_value_spec pagable_flavors pagable_codec pagable_core pagable_file anyhow"
 SIZES = [(300, 300), (100, 10_000)]
 TIME = re.compile(r"(stored|fetched|opened) in (\d+) ms")
 

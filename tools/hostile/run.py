@@ -14,13 +14,16 @@ import pathlib
 import re
 import resource
 import sqlite3
+import struct
 import subprocess
 import sys
 import tempfile
 import time
 
 sys.dont_write_bytecode = True
+sys.path.append(str(pathlib.Path(__file__).resolve().parent.parent / "file_blobs"))
 import collide  # noqa: E402
+import plain_file  # noqa: E402
 
 MIB = 1 << 20
 # A number of items or bytes that isn't there, as large as a length can be; and one more.
@@ -164,8 +167,28 @@ def files(run, program):
     for name in ("fifo", "folder", "garbage", "ring", "foreign", "/dev/zero", "/dev/full"):
         _, fault, status, seconds = run.ask([program, name, "stat"])
         came = f"{fault.decode().strip().rpartition(': ')[2]}, {status}"
-        run.tell(f"blobctl: {name}", came, seconds, "(the file is none of blobs|the file cannot be opened|"
-                 r"Too many levels of symbolic links \(os error 40\)), 1", 5)
+        wanted = "(the file is none of blobs|the path names no regular file|the disk failed), 1"
+        run.tell(f"blobctl: {name}", came, seconds, wanted, 5)
+
+
+def made_files(run, program):
+    """Files of blobs that are made on purpose: lengths that no file has, and rows that ask for what isn't there."""
+    key, head, damaged = "01" * 16, plain_file.HEADER + b"\1", ("", "blobctl: made.blobs: the file is damaged\n", 1)
+    with_rows = lambda rows: head + struct.pack("<QQQ", 0, len(rows), plain_file.sum_of(rows)) + rows
+    many = [(f"{number:032x}", 0, b"") for number in range(1, 20_000)]
+    for what, content, wanted in [
+        ("lengths of 2^64 - 1", head + b"\xff" * 24, ("0 blobs, 0 flaws\n", "", 0)),
+        ("rows of 2^62 bytes", head + struct.pack("<QQQ", 0, 2**62, 1), ("0 blobs, 0 flaws\n", "", 0)),
+        ("bodies of 2^62 bytes", head + struct.pack("<QQQ", 2**62, 0, 1), ("0 blobs, 0 flaws\n", "", 0)),
+        ("a body of 4 GiB", with_rows(bytes.fromhex(key) + struct.pack("<II", 0, 2**32 - 1)), damaged),
+        ("2^32 - 2 child keys", with_rows(bytes.fromhex(key) + struct.pack("<II", 2**32 - 2, 0)), damaged),
+        ("a name of 4 GiB", with_rows(bytes.fromhex(key) + struct.pack("<II", 2**32 - 1, 2**32 - 1)), damaged),
+        ("19,999 empty bodies", plain_file.file_of(plain_file.batch(many)), (".*19999 blobs, 19999 flaws\n", "10000 blobs\n", 1)),
+    ]:
+        (run.folder / "made.blobs").write_bytes(content)
+        said, fault, status, seconds = run.ask([program, "made.blobs", "fsck"], limit=64 * MIB)
+        came = f"{said.decode()}{fault.decode()}{status}"
+        run.tell(f"blobctl: {what}", came, seconds, "{}{}{}".format(*wanted), 5)
 
 
 def asked():
@@ -189,7 +212,7 @@ def main():
         if words.blobctl:
             lines(run, [words.blobctl, "lines.blobs"], False)
             lines(run, [words.blobctl, "texts", "texts.blobs"], True)
-            for each in (names, children, files):
+            for each in (names, children, files, made_files):
                 each(run, words.blobctl)
     sys.exit(f"{run.faults} inputs came to something else" if run.faults else 0)
 

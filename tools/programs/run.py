@@ -23,12 +23,9 @@ import models  # noqa: E402
 
 
 def run(program, words, text=""):
-    """Runs a program with these words and this input: its status, and what it said. Behind a run that succeeds, the log
-    of its store is removed: the store alone has to have all."""
+    """Runs a program with these words and this input: its status, and what it said."""
     how = {"encoding": "utf-8", "errors": "surrogateescape", "capture_output": True, "timeout": 120}
     done = subprocess.run([program, *map(str, words)], input=text, **how)
-    if done.returncode == 0:
-        pathlib.Path(f"{words[0]}-wal").unlink(missing_ok=True)
     return done.returncode, done.stdout + done.stderr
 
 
@@ -69,7 +66,7 @@ def expect_no_store(program, work, *words):
     """Ends the program where a store that can't be opened, or holds something else, isn't named with the reason."""
     other = work / "other.store"
     other.write_text("no store")
-    for store, why in [(work / "none" / "a.store", "the file cannot be opened"), (other, "the file is none of blobs")]:
+    for store, why in [(work / "none" / "a.store", "there is no such folder"), (other, "the file is none of blobs")]:
         expect_failure(run(program, [store, *words]), "", [f"opening {store}", why], f"the store {store}")
 
 

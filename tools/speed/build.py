@@ -34,6 +34,7 @@ NEEDED = {
     "cargo": "no cargo: install Rust's toolchain",
     "cc": "no C compiler: install gcc or clang",
     "git": "no git: install it",
+    "sqlite3": "no sqlite3: install it",
     "rt": "no rt: put the toolchain's bin into PATH",
     "time": "no GNU time: install it",
     "valgrind": "no valgrind: install it",

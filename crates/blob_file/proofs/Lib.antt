@@ -8,6 +8,7 @@ pub mod Heads
 pub mod Indexes
 pub mod KeyBytes
 pub mod Listings
+pub mod Looks
 pub mod NewBatches
 pub mod Placing
 pub mod Reopens

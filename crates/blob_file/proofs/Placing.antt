@@ -94,11 +94,11 @@ same_bodies f g m n P same all each q = ap (option_map f) (same q) ∙ go (n q) 
     go (Some p) here = ap Some (each p (here p refl))
 
 -- a body is as long as its place says
-pub as_long : (file bodies : List ℕ) (gate : ℕ) (p : Place) → gate ≤ length file → IsHere gate (length bodies) p
+pub as_long : (file bodies : List ℕ) (gate : ℕ) (p : Place) → (p.at < gate + 25 → p.at + size_of_place p ≤ length file) → IsHere gate (length bodies) p
     → length (body_bytes file bodies (gate + 25) p) ≡ size_of_place p
 as_long file bodies gate p within (inl low) =
     ap (λ (l : List ℕ). length l) (bytes_flushed file bodies (gate + 25) p (omega (arith, low)))
-    ∙ length-part file p.at (size_of_place p) (omega (arith, low, within))
+    ∙ length-part file p.at (size_of_place p) (within (omega (arith, low)))
 as_long file bodies gate p within (inr high) =
     ap (λ (l : List ℕ). length l) (bytes_held file bodies (gate + 25) p high.0)
     ∙ length-part bodies (p.at - (gate + 25)) (size_of_place p) (omega (arith, high))

@@ -67,7 +67,7 @@ open_size b opens = leb-true _ _ (and_parts _ _ opens).1
 front_again : (b : List ℕ) → take (size_of b) b ++ drop (size_of b) b ≡ b
 front_again b = take-append-drop (size_of b) b
 
-length_front : (b : List ℕ) → is_open b ≡ true → length (take (size_of b) b) ≡ size_of b
+pub length_front : (b : List ℕ) → is_open b ≡ true → length (take (size_of b) b) ≡ size_of b
 length_front b opens = omega (arith, length-take (size_of b) b, open_size b opens)
 
 pub batch_there : (b : List ℕ) → is_open b ≡ true → IsBatch (take (size_of b) b)

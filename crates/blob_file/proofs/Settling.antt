@@ -1,5 +1,5 @@
 -- What is stored when nothing is held, when a blob or a name is added, and when all is flushed.
-use Rattle.std.proofs.Common.{◌≡◌, inl, inr, refl, sym, ◌∙◌, ap, ap₂, subst, ℕ, ◌+◌, ◌-◌, ◌<◌, ◌≤◌, ◌^◌, true, false, Bool, if◌then◌else◌, List, []}
+use Rattle.std.proofs.Common.{◌≡◌, ◌⊎◌, inl, inr, refl, sym, ◌∙◌, ap, ap₂, subst, ℕ, ◌+◌, ◌-◌, ◌<◌, ◌≤◌, ◌^◌, true, false, Bool, if◌then◌else◌, List, []}
 use Rattle.std.proofs.Common.{◌∷◌, ◌++◌, length, take, drop, arith}
 use Rattle.std.proofs.Common.{append_assoc, length-append, drop-drop, drop_at, take_all, Option, Some, cond, nat_eq}
 use Rattle.std.specs.Prelude.{option_map}
@@ -39,10 +39,14 @@ pub idle_names : (rows : List ℕ) (known : List ℕ → Option ℕ) (q : List �
 idle_names rows known q none = ap (λ (l : List ℕ). told (names_in l) known q) none ∙ told_nothing known q
 
 -- where nothing is held, what is stored is what the batches have
-pub idle_stored : (file bodies : List ℕ) (gate : ℕ) (bs : List (List ℕ)) (known : ℕ → Option Place) → take gate file ≡ header ++ joined bs
+pub idle_stored : (file bodies : List ℕ) (gate : ℕ) (bs : List (List ℕ)) (known : ℕ → Option Place) → (bs ≡ []) ⊎ (take gate file ≡ header ++ joined bs)
     → gate ≡ 16 + length (joined bs) → AreBatches bs → AreFormed bs → ((q : ℕ) → known q ≡ places_in 16 bs nowhere q)
     → (q : ℕ) → option_map (body_of (body_bytes file bodies (gate + 25))) (known q) ≡ stored_in bs q
-idle_stored file bodies gate bs known front place whole formed same q =
+unfolding places_in
+idle_stored file bodies gate bs known (inl none) place whole formed same q =
+    ap (option_map (body_of (body_bytes file bodies (gate + 25)))) (same q ∙ ap (λ (l : List (List ℕ)). places_in 16 l nowhere q) none)
+    ∙ sym (ap (λ (l : List (List ℕ)). stored_in l q) none)
+idle_stored file bodies gate bs known (inr front) place whole formed same q =
     same_bodies (body_of (body_bytes file bodies (gate + 25))) (body_at (header ++ joined bs)) known (places_in 16 bs nowhere)
     (λ p. p.at + size_of_place p ≤ 16 + length (joined bs)) same (places_within bs whole formed)
     (λ p within. ap (λ (b : List ℕ). record { children = p.children; bytes = b })

@@ -7,7 +7,7 @@ use Rattle.sqlite_wal.specs.Reads.{IsClean, OnlyReads}
 use Rattle.blob_file.specs.Format.{AreSummed, open_head, recovered}
 use Rattle.blob_file.specs.Opening.{FailsFor, Refuses, StandsTo}
 use Rattle.blob_file.specs.declared.file_error.FileError.{FileError}
-use Rattle.blob_file.specs.declared.file_error.FileError.TheVariants.{OutOfMemory, NotBlobs, Damaged, Failed, Shut, TooLong, NoSuchBlob}
+use Rattle.blob_file.specs.declared.file_error.FileError.TheVariants.{OutOfMemory, NotBlobs, Damaged, Failed, Shut, TooLong, NoSuchBlob, ReadOnly}
 use Rattle.blob_file.specs.Rows.{AreFormed}
 use Rattle.blob_file.specs.declared.head.Head.{Head}
 use Rattle.blob_file.specs.declared.index.Index.{Index}
@@ -51,3 +51,4 @@ refuses_batch {P = P} {Q = Q} clean file before after (Err y) e is fails damaged
     go Shut f = f
     go TooLong f = f
     go NoSuchBlob f = f
+    go ReadOnly f = f

@@ -3,11 +3,11 @@ use Rattle.std.specs.Prelude.{◌≡◌, ℕ, ◌+◌, ◌<◌, ◌≤◌, ◌^�
 use Rattle.sqlite_disk.specs.declared.Disk.{Ghosts}
 use Rattle.sqlite_disk.specs.Digest.{digest}
 use Rattle.sqlite_disk.specs.Disk.{MoreFaults}
-use Rattle.blob_file.specs.Format.{head_bytes, recovered, AreSummed}
+use Rattle.blob_file.specs.Format.{head_bytes, joined, recovered, AreSummed}
 use Rattle.blob_file.specs.Log.{IsReady}
 use Rattle.blob_file.specs.Rows.{AreFormed}
 use Rattle.blob_file.specs.declared.file_error.FileError.{FileError}
-use Rattle.blob_file.specs.declared.file_error.FileError.TheVariants.{OutOfMemory, Failed, Shut, TooLong}
+use Rattle.blob_file.specs.declared.file_error.FileError.TheVariants.{OutOfMemory, Failed, ReadOnly, Shut, TooLong}
 use Rattle.blob_file.specs.declared.log.Log.{Log}
 use Rattle.blob_file.specs.declared.staging.Plan.{Plan}
 
@@ -26,16 +26,22 @@ PlanFails gate bodies rows TooLong = 2 ^ 64 ≤ gate + 25 + bodies + rows
 PlanFails gate bodies rows _ = ⊥
 
 -- why a batch isn't added
-abbrev pub AppendFails : Bool → ℕ → ℕ → ℕ → FileError → Type 0
-AppendFails whole end before after OutOfMemory = ⊤
-AppendFails whole end before after TooLong = 2 ^ 64 ≤ end
-AppendFails whole end before after Failed = MoreFaults before after
-AppendFails whole end before after Shut = whole ≡ false
-AppendFails whole end before after _ = ⊥
+abbrev pub AppendFails : {D : Type 0} → Log D → ℕ → ℕ → ℕ → FileError → Type 0
+AppendFails log end before after OutOfMemory = ⊤
+AppendFails log end before after TooLong = 2 ^ 64 ≤ end
+AppendFails log end before after Failed = MoreFaults before after
+AppendFails log end before after Shut = log.is_whole ≡ false
+AppendFails log end before after ReadOnly = log.may_write ≡ false
+AppendFails log end before after _ = ⊥
 
--- The file is ready for the next flush, unless one failed.
+-- the log was opened for its one writer, and no flush has failed
+abbrev pub MayWrite : {D : Type 0} → Log D → Type 0
+MayWrite log = IsTrue log.is_whole × IsTrue log.may_write
+
+-- Unless a flush failed, the log knows where the batches of its file end; and if it may write, the file is ready for the next flush.
 pub record IsOpen {D : Type 0} (g : Ghosts D) (log : Log D) : Type 0 where
   pub usable : IsTrue log.is_whole → IsTrue (g.is_usable log.disk)
-  pub ready : IsTrue log.is_whole → IsTrue (g.is_clean log.disk) → IsReady g log.gate log.disk
+  pub place : IsTrue log.is_whole → IsTrue (g.is_clean log.disk) → log.gate ≡ 16 + length (joined (recovered (g.seen log.disk)))
+  pub ready : MayWrite log → IsTrue (g.is_clean log.disk) → IsReady g log.gate log.disk
   pub summed : IsTrue log.is_whole → IsTrue (g.is_clean log.disk) → AreSummed (recovered (g.seen log.disk))
   pub formed : IsTrue log.is_whole → IsTrue (g.is_clean log.disk) → AreFormed (recovered (g.seen log.disk))

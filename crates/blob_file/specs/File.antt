@@ -1,7 +1,7 @@
 -- An open file of blobs: what is flushed, what is held, and what is fetched.
 use Rattle.std.specs.Prelude.{◌≡◌, ◌≢◌, ◌⊎◌, ℕ, ◌+◌, ◌*◌, ◌-◌, ◌≤◌, ◌^◌, nat_eq, nat_le, Bool, if◌then◌else◌, false, IsTrue, ⊤, List, length}
-use Rattle.std.specs.Prelude.{Option, None, Some, option_map, IfSome, IsSome, IsSomeAnd, map}
-use Rattle.std.specs.HashMap.{get, get_by_text}
+use Rattle.std.specs.Prelude.{Option, None, Some, filter, option_map, IfSome, IsSome, IsSomeAnd, map}
+use Rattle.std.specs.HashMap.{get, get_by_text, values}
 use Rattle.std.specs.List.{AllPairs, Contains}
 use Rattle.sqlite_disk.specs.declared.Disk.{Ghosts}
 use Rattle.sqlite_disk.specs.Disk.{MoreFaults}
@@ -13,13 +13,22 @@ use Rattle.blob_file.specs.Rows.{Body, AreWhole, blobs_in, named_in, names_in, n
 use Rattle.blob_file.specs.declared.file.BlobFile.{BlobFile}
 use Rattle.blob_file.specs.declared.file.FoundBlob.{FoundBlob}
 use Rattle.blob_file.specs.declared.file_error.FileError.{FileError}
-use Rattle.blob_file.specs.declared.file_error.FileError.TheVariants.{OutOfMemory, Damaged, Failed, NoSuchBlob, Shut, TooLong}
+use Rattle.blob_file.specs.declared.file_error.FileError.TheVariants.{OutOfMemory, Damaged, Failed, NoSuchBlob, ReadOnly, Shut, TooLong}
 use Rattle.blob_file.specs.declared.listing.ListedBlob.{ListedBlob}
+use Rattle.blob_file.specs.declared.log.Log.{Log}
 use Rattle.blob_file.specs.declared.rows.Place.{Place}
 
 -- where the bodies of the next batch begin
 abbrev pub first_body : {D : Type 0} → BlobFile D → ℕ
 first_body it = it.log.gate + 25
+
+-- the body at a place waits for a flush, behind the gate
+abbrev pub is_held : ℕ → Place → Bool
+is_held gate p = nat_le (gate + 25) p.at
+
+-- how many blobs wait for a flush
+abbrev pub held_blobs : {D : Type 0} → BlobFile D → ℕ
+held_blobs it = length (filter (is_held it.log.gate) (values it.index.places))
 
 -- the bytes at a place: of the next batch, whose bodies begin at `first`, they are held in memory, and else they stand in the file
 abbrev pub body_bytes : List ℕ → List ℕ → ℕ → Place → List ℕ
@@ -92,11 +101,12 @@ FetchFails clean whole before after Shut = whole ≡ false
 FetchFails clean whole before after _ = ⊥
 
 -- why a blob isn't held
-abbrev pub AddFails : Bool → FileError → Type 0
-AddFails whole OutOfMemory = ⊤
-AddFails whole Shut = whole ≡ false
-AddFails whole TooLong = ⊤
-AddFails whole _ = ⊥
+abbrev pub AddFails : {D : Type 0} → Log D → FileError → Type 0
+AddFails log OutOfMemory = ⊤
+AddFails log Shut = log.is_whole ≡ false
+AddFails log ReadOnly = log.may_write ≡ false
+AddFails log TooLong = ⊤
+AddFails log _ = ⊥
 
 -- nothing is known under the key, or it is 0
 abbrev pub HasNoBlob : {X : Type 0} → (ℕ → Option X) → Option ℕ → Type 0
@@ -124,9 +134,10 @@ abbrev pub listed_entry : ℕ × Place → ListedBlob
 listed_entry it = record { key = it.0; children = it.1.children; bytes = it.1.bytes }
 
 -- why a name isn't set
-abbrev pub NameFails : Bool → List ℕ → Option ℕ → (ℕ → Option Body) → FileError → Type 0
-NameFails whole name key blobs OutOfMemory = ⊤
-NameFails whole name key blobs NoSuchBlob = HasNoBlob blobs key
-NameFails whole name key blobs Shut = whole ≡ false
-NameFails whole name key blobs TooLong = 2 ^ 32 ≤ length name
-NameFails whole name key blobs _ = ⊥
+abbrev pub NameFails : {D : Type 0} → Log D → List ℕ → Option ℕ → (ℕ → Option Body) → FileError → Type 0
+NameFails log name key blobs OutOfMemory = ⊤
+NameFails log name key blobs NoSuchBlob = HasNoBlob blobs key
+NameFails log name key blobs Shut = log.is_whole ≡ false
+NameFails log name key blobs ReadOnly = log.may_write ≡ false
+NameFails log name key blobs TooLong = 2 ^ 32 ≤ length name
+NameFails log name key blobs _ = ⊥

@@ -1,8 +1,8 @@
 -- Why a file may be refused, and what a walk over its batches knows.
-use Rattle.std.specs.Prelude.{◌≡◌, ◌⊎◌, ℕ, ◌≤◌, false, ◌||◌, IsTrue, ⊤, List, ◌++◌, length, take}
+use Rattle.std.specs.Prelude.{◌≡◌, ◌⊎◌, ℕ, ◌+◌, ◌≤◌, false, ◌||◌, IsTrue, ⊤, List, ◌++◌, length, take}
 use Rattle.sqlite_disk.specs.declared.Disk.{Ghosts}
 use Rattle.sqlite_disk.specs.Disk.{MoreFaults}
-use Rattle.sqlite_wal.specs.Reads.{IsClean}
+use Rattle.sqlite_wal.specs.Reads.{IsClean, OnlyReads}
 use Rattle.blob_file.specs.Format.{header, joined, recovered, is_made, is_unmade, AreBatches, AreSummed}
 use Rattle.blob_file.specs.Log.{RestsAt, IsReady}
 use Rattle.blob_file.specs.Rows.{AreFormed, Knows}
@@ -47,6 +47,15 @@ pub record Opens {D : Type 0} (g : Ghosts D) (old : D) (gate : ℕ) (index : Ind
   pub knows : IsClean g new → Knows index (recovered (g.seen old))
   pub kind : IsClean g new → IsTrue (is_made (g.seen old) || is_unmade (g.seen old))
   pub untouched : IsClean g new → (place : ℕ) → RestsAt place (g.seen old) → g.seen new ≡ g.seen old
+
+-- The file was looked at, with no byte written; its batches end at `gate`, and the index has what they say.
+pub record Looks {D : Type 0} (g : Ghosts D) (old : D) (gate : ℕ) (index : Index) (new : D) : Type 0 where
+  pub reads : OnlyReads g old new
+  pub place : IsClean g new → gate ≡ 16 + length (joined (recovered (g.seen old)))
+  pub summed : IsClean g new → AreSummed (recovered (g.seen old))
+  pub formed : IsClean g new → AreFormed (recovered (g.seen old))
+  pub knows : IsClean g new → Knows index (recovered (g.seen old))
+  pub kind : IsClean g new → IsTrue (is_made (g.seen old) || is_unmade (g.seen old))
 
 -- whatever a crash leaves, it left before, or it stands for what the file stood for
 pub record KeepsBatches {D : Type 0} (g : Ghosts D) (old new : D) : Type 0 where

@@ -3,12 +3,13 @@
 ghost use Rattle.blob_file.specs.File.{AddFails, FetchFails, IsSettled, NamesStand, Same, SameBlobs, SameNames};
 ghost use Rattle.blob_file.specs.File.{body_bytes, content, content_of, flushed, found_body, named, stored};
 ghost use Rattle.blob_file.specs.Opening.{CanOpen, FailsFor, KeepsBatches, KeepsBytesUnlessFailed, Refuses};
-ghost use Rattle.blob_file.specs.{Format.{recovered}, Rows.{size_of_place}};
+ghost use Rattle.blob_file.specs.{Appending.{IsOpen, MayWrite}, Format.{recovered}, Rows.{Knows, size_of_place}};
 ghost use Rattle.blob_file.specs.declared.file_error.FileError.TheVariants.{Damaged, OutOfMemory};
 ghost use Rattle.sqlite_disk.specs.Disk.{MoreFaults};
 ghost use Rattle.sqlite_wal.specs.{Format.{part}, Reads.{IsClean, OnlyReads}};
 ghost use Rattle.std.specs.{HashMap.{get}, Map.{update}, Option.{SomeIff}};
-ghost use Rattle.std.specs.Prelude.{IfErr, IfNone, IfOk, IfSome, IsTrue, List, OnErr, OnOk, Some, length, nat_eq, ℕ};
+ghost use Rattle.std.specs.Prelude.{IfErr, IfNone, IfOk, IfSome, IsTrue, List, MatchResult, OnErr, OnOk, Some, false};
+ghost use Rattle.std.specs.Prelude.{length, nat_eq, ℕ};
 ghost use Rattle.std.specs.Prelude.{◌*◌, ◌+◌, ◌-◌, ◌<◌, ◌≡◌, ◌≤◌, ◌⊎◌};
 
 use crate::file_error::FileError;
@@ -41,7 +42,7 @@ pub struct BlobFile<D: Disk> {
 }
 
 /// Returns where a body begins among those that are held, or None if it stands in the file.
-fn held_at(gate: usize, place: Place) -> Option<usize>
+pub(crate) fn held_at(gate: usize, place: Place) -> Option<usize>
     ensures { SomeIff result (gate + 25 ≤ place.at) (place.at - (gate + 25)) }
 {
     let behind = place.at.checked_sub(gate)?;
@@ -109,7 +110,7 @@ impl<D: Disk> BlobFile<D> {
             → Same (content_of (recovered (D.seen disk))) (content D.Disk it)) }
         ensures flushed { IfOk result (λ it. IsClean D.Disk it.log.disk
             → recovered (D.seen it.log.disk) ≡ recovered (D.seen disk)) }
-        ensures settled { IfOk result (λ it. IsSettled D.Disk it × IsTrue it.log.is_whole) }
+        ensures settled { IfOk result (λ it. IsSettled D.Disk it × IsTrue it.log.is_whole × IsTrue it.log.may_write) }
         ensures moment { IfOk result (λ it. KeepsBatches D.Disk disk it.log.disk) }
         ensures moment_err { IfErr result (λ e. KeepsBatches D.Disk disk e.1) }
         ensures refused { IfErr result (λ e. Refuses (IsClean D.Disk e.1) (D.seen disk) (D.faults disk)
@@ -117,13 +118,46 @@ impl<D: Disk> BlobFile<D> {
         ensures kept { IfErr result (λ e. KeepsBytesUnlessFailed D.Disk disk e.1 e.0) }
     {
         match Log::open(alloc, disk) {
-            Ok((log, index)) => Ok(BlobFile {
-                log,
-                index,
-                bodies: Vec::new(alloc),
-                rows: Vec::new(alloc),
-            }),
+            Ok((log, index)) => Ok(BlobFile::new(alloc, log, index)),
             Err(refused) => Err(refused),
+        }
+    }
+
+    /// Opens a file for looking alone. No byte is written then or later, and nothing is held. The file
+    /// may never have been made, or end in the middle of a batch, which doesn't count.
+    ///
+    /// # Errors
+    ///
+    /// With the disk back: `OutOfMemory`, `NotBlobs`, `Damaged`, `Failed`.
+    pub fn look(alloc: Global, disk: D) -> Result<BlobFile<D>, (FileError, D)>
+        requires usable { IsTrue (D.is_usable disk) }
+        ensures found { IfOk result (λ it. IsClean D.Disk it.log.disk
+            → Same (content_of (recovered (D.seen disk))) (content D.Disk it)) }
+        ensures settled { IfOk result (λ it. IsSettled D.Disk it × IsTrue it.log.is_whole × (it.log.may_write ≡ false)) }
+        ensures refused { IfErr result (λ e. Refuses (IsClean D.Disk e.1) (D.seen disk) (D.faults disk)
+            (D.faults e.1) e.0) }
+        ensures same { MatchResult result (λ it. OnlyReads D.Disk disk it.log.disk) (λ e. OnlyReads D.Disk disk e.1) }
+    {
+        match Log::look(alloc, disk) {
+            Ok((log, index)) => Ok(BlobFile::new(alloc, log, index)),
+            Err(refused) => Err(refused),
+        }
+    }
+
+    /// Makes a file of a log, whose batches say this, with nothing held.
+    fn new(alloc: Global, log: Log<D>, index: Index) -> BlobFile<D>
+        requires open { IsOpen D.Disk log }
+        requires knows { IsTrue log.is_whole → IsClean D.Disk log.disk → Knows index (recovered (D.seen log.disk)) }
+        ensures settled { IsSettled D.Disk result }
+        ensures found { IsTrue log.is_whole → IsClean D.Disk log.disk
+            → Same (content_of (recovered (D.seen log.disk))) (content D.Disk result) }
+        ensures log { result.log ≡ log }
+    {
+        BlobFile {
+            log,
+            index,
+            bodies: Vec::new(alloc),
+            rows: Vec::new(alloc),
         }
     }
 
@@ -149,6 +183,7 @@ impl<D: Disk> BlobFile<D> {
         ensures same { Same (content D.Disk self.old) (content D.Disk self.new) }
         ensures same_flushed { Same (flushed D.Disk self.old) (flushed D.Disk self.new) }
         ensures same_whole { self.new.log.is_whole ≡ self.old.log.is_whole }
+        ensures same_may { self.new.log.may_write ≡ self.old.log.may_write }
         ensures clean { IsClean D.Disk self.new.log.disk → IsClean D.Disk self.old.log.disk }
     {
         if !self.log.is_whole {
@@ -176,14 +211,14 @@ impl<D: Disk> BlobFile<D> {
     /// # Errors
     ///
     /// `OutOfMemory`; `TooLong` if the body has 4 GiB or more behind its child keys, or would end at
-    /// 2^64 or above, or there are 2^32 - 1 child keys; `Shut` after a flush that failed. Nothing
-    /// changes.
+    /// 2^64 or above, or there are 2^32 - 1 child keys; `Shut` after a flush that failed; `ReadOnly` if
+    /// the file was opened for looking alone. Nothing changes.
     pub fn add(&mut self, key: u128, children: u32, body: &[u8]) -> Result<(), FileError>
         requires settled { IsSettled D.Disk self.old }
         requires children { 16 * children ≤ length body.now }
         ensures added { OnOk result (IsClean D.Disk self.new.log.disk → (q : ℕ) → stored D.Disk self.new q
             ≡ update nat_eq (stored D.Disk self.old) key (Some (record { children = children; bytes = body.now })) q) }
-        ensures refused { IfErr result (AddFails self.old.log.is_whole) }
+        ensures refused { IfErr result (AddFails self.old.log) }
         ensures kept { OnErr result (SameBlobs (stored D.Disk self.old) (stored D.Disk self.new)) }
         ensures names { SameNames (named self.old) (named self.new) }
         ensures stand { IsClean D.Disk self.new.log.disk → NamesStand (content D.Disk self.old)
@@ -193,6 +228,9 @@ impl<D: Disk> BlobFile<D> {
     {
         if !self.log.is_whole {
             return Err(FileError::Shut);
+        }
+        if !self.log.may_write {
+            return Err(FileError::ReadOnly);
         }
         let Some(row) = make_row(key, children, body.len()) else {
             return Err(FileError::TooLong);
@@ -227,16 +265,19 @@ impl<D: Disk> BlobFile<D> {
             → Same (content D.Disk self.old) (content D.Disk self.new) }
 
         // A crash in it or after it leaves what was flushed before, or that and all that was held.
-        ensures any_moment { IsTrue self.old.log.is_whole → IsClean D.Disk self.new.log.disk → (c : List ℕ)
+        ensures any_moment { MayWrite self.old.log → IsClean D.Disk self.new.log.disk → (c : List ℕ)
             → D.may_leave self.new.log.disk c → Same (flushed D.Disk self.old) (content_of (recovered c))
             ⊎ Same (content D.Disk self.old) (content_of (recovered c)) }
-        ensures durable { OnOk result (IsTrue self.old.log.is_whole → IsClean D.Disk self.new.log.disk → (c : List ℕ)
+        ensures durable { OnOk result (MayWrite self.old.log → IsClean D.Disk self.new.log.disk → (c : List ℕ)
             → D.may_leave self.new.log.disk c → Same (content D.Disk self.old) (content_of (recovered c))) }
-        ensures opens_again { IsTrue self.old.log.is_whole → IsClean D.Disk self.new.log.disk → (c : List ℕ)
+        ensures opens_again { MayWrite self.old.log → IsClean D.Disk self.new.log.disk → (c : List ℕ)
             → D.may_leave self.new.log.disk c → CanOpen c }
         ensures whole { OnOk result (IsTrue self.old.log.is_whole → IsTrue self.new.log.is_whole) }
         ensures settled { IsSettled D.Disk self.new }
+        ensures kept { OnErr result (IsTrue self.new.log.is_whole → IsClean D.Disk self.new.log.disk
+            → Same (flushed D.Disk self.old) (flushed D.Disk self.new)) }
         ensures was_whole { IsTrue self.new.log.is_whole → IsTrue self.old.log.is_whole }
+        ensures same_may { self.new.log.may_write ≡ self.old.log.may_write }
         ensures clean { IsClean D.Disk self.new.log.disk → IsClean D.Disk self.old.log.disk }
     {
         if self.rows.is_empty() {
@@ -256,12 +297,12 @@ impl<D: Disk> BlobFile<D> {
         requires settled { IsSettled D.Disk self }
         ensures flushed { IfOk result (λ disk. IsTrue self.log.is_whole → IsClean D.Disk disk
             → Same (content D.Disk self) (content_of (recovered (D.seen disk)))) }
-        ensures durable { IfOk result (λ disk. IsTrue self.log.is_whole → IsClean D.Disk disk → (c : List ℕ)
+        ensures durable { IfOk result (λ disk. MayWrite self.log → IsClean D.Disk disk → (c : List ℕ)
             → D.may_leave disk c → Same (content D.Disk self) (content_of (recovered c))) }
         ensures usable { IfOk result (λ disk. IsTrue self.log.is_whole → IsTrue (D.is_usable disk)) }
         ensures same { IfErr result (λ e. IsTrue e.1.log.is_whole → IsClean D.Disk e.1.log.disk
             → Same (content D.Disk self) (content D.Disk e.1)) }
-        ensures any_moment { IfErr result (λ e. IsTrue self.log.is_whole → IsClean D.Disk e.1.log.disk → (c : List ℕ)
+        ensures any_moment { IfErr result (λ e. MayWrite self.log → IsClean D.Disk e.1.log.disk → (c : List ℕ)
             → D.may_leave e.1.log.disk c → Same (flushed D.Disk self) (content_of (recovered c))
             ⊎ Same (content D.Disk self) (content_of (recovered c))) }
         ensures settled { IfErr result (λ e. IsSettled D.Disk e.1) }

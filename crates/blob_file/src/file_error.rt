@@ -23,6 +23,8 @@ pub enum FileError {
     TooLong,
     /// There is no blob for which the name could stand.
     NoSuchBlob,
+    /// The file was opened for looking alone.
+    ReadOnly,
 }
 
 impl From<io::Error> for FileError {
@@ -59,6 +61,7 @@ impl fmt::Display for FileError {
             FileError::Shut => "an earlier failure shut the file",
             FileError::TooLong => "the file would be too long",
             FileError::NoSuchBlob => "no blob is stored under the key",
+            FileError::ReadOnly => "the file is open for looking alone",
         })
     }
 }

@@ -1,6 +1,7 @@
 //! What holds across a crash, as contracts of functions that go through one.
 
 ghost use Rattle.blob_file.specs.declared.file_error.FileError.TheVariants.{Damaged, NotBlobs};
+ghost use Rattle.blob_file.specs.Appending.{MayWrite};
 ghost use Rattle.blob_file.specs.File.{IsSettled, NamesStand, Same, content, flushed};
 ghost use Rattle.sqlite_wal.specs.Reads.{IsClean};
 ghost use Rattle.std.specs.Prelude.{IfErr, IfOk, IsTrue, ◌≢◌, ◌⊎◌};
@@ -17,7 +18,7 @@ pub fn crash_and_open<D: Crash>(
     file: BlobFile<D>,
 ) -> Result<BlobFile<D>, (FileError, D)>
     requires settled { IsSettled D.Disk file }
-    requires whole { IsTrue file.log.is_whole }
+    requires open { MayWrite file.log }
     ensures found { IfOk result (λ again. IsClean D.Disk again.log.disk
         → Same (flushed D.Disk file) (content D.Disk again)) }
     ensures not_refused { IfErr result (λ e. IsClean D.Disk e.1 → (e.0 ≢ NotBlobs) × (e.0 ≢ Damaged)) }
@@ -39,7 +40,7 @@ pub fn flush_crash_and_open<D: Crash>(
     file: BlobFile<D>,
 ) -> (bool, Result<BlobFile<D>, (FileError, D)>)
     requires settled { IsSettled D.Disk file }
-    requires whole { IsTrue file.log.is_whole }
+    requires open { MayWrite file.log }
     ensures acknowledged { IsTrue result.0 → IfOk result.1 (λ again. IsClean D.Disk again.log.disk
         → Same (content D.Disk file) (content D.Disk again)) }
     ensures all_or_none { IfOk result.1 (λ again. IsClean D.Disk again.log.disk

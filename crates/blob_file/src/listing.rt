@@ -1,12 +1,12 @@
 //! What a file of blobs has, without the bodies.
 
-ghost use Rattle.blob_file.specs.File.{IsSettled, Lists, ListsBlobs, listed_entry, named, stored};
+ghost use Rattle.blob_file.specs.File.{IsSettled, Lists, ListsBlobs, held_blobs, is_held, listed_entry, named, stored};
 ghost use Rattle.blob_file.specs.declared.file_error.FileError.TheVariants.{OutOfMemory};
 ghost use Rattle.sqlite_wal.specs.Reads.{IsClean};
-ghost use Rattle.std.specs.HashMap.{IsUnique};
-ghost use Rattle.std.specs.Prelude.{IfErr, IfOk, IsTrue, List, OnOk, length, map, nat_eq, ℕ, ◌≡◌};
+ghost use Rattle.std.specs.HashMap.{IsUnique, values};
+ghost use Rattle.std.specs.Prelude.{IfErr, IfOk, IsTrue, List, OnOk, filter, length, map, nat_eq, ℕ, ◌≡◌};
 
-use crate::file::BlobFile;
+use crate::file::{BlobFile, held_at};
 use crate::file_error::FileError;
 use crate::index::Places;
 use sqlite_disk::Disk;
@@ -52,6 +52,16 @@ fn list_places(alloc: Global, places: &Places) -> Result<Vec<ListedBlob>, FileEr
     Ok(listed)
 }
 
+/// Counts the places behind a gate.
+fn count_behind(places: &Places, gate: usize) -> usize
+    ensures { result ≡ length (filter (is_held gate) (values places.now)) }
+{
+    places
+        .values()
+        .filter(|place| held_at(gate, **place).is_some())
+        .count()
+}
+
 impl<D: Disk> BlobFile<D> {
     /// Lists each blob, flushed or held, once, and no other, in no particular order.
     ///
@@ -80,5 +90,12 @@ impl<D: Disk> BlobFile<D> {
             flushed_bytes: self.log.gate,
             held_bytes: self.bodies.len(),
         }
+    }
+
+    /// Counts the blobs that are held in memory until a flush, by a walk over all places.
+    pub fn count_held(&self) -> usize
+        ensures { result ≡ held_blobs self.now }
+    {
+        count_behind(&self.index.places, self.log.gate)
     }
 }

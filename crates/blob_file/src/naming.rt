@@ -57,7 +57,8 @@ impl<D: Disk> BlobFile<D> {
     /// # Errors
     ///
     /// `NoSuchBlob` if no blob is stored under the key, flushed or held, or it is 0; `OutOfMemory`;
-    /// `TooLong` if the name has 4 GiB or more; `Shut` after a flush that failed. Nothing changes.
+    /// `TooLong` if the name has 4 GiB or more; `Shut` after a flush that failed; `ReadOnly` if the
+    /// file was opened for looking alone. Nothing changes.
     pub fn set_root(
         &mut self,
         alloc: Global,
@@ -68,7 +69,7 @@ impl<D: Disk> BlobFile<D> {
         ensures named { OnOk result ((q : List ℕ) → named self.new q
             ≡ update bytes_eq (named self.old) name.now key q) }
         ensures stands { OnOk result (IfSome key (λ it. IsSome (stored D.Disk self.old it))) }
-        ensures refused { IfErr result (NameFails self.old.log.is_whole name.now key (stored D.Disk self.old)) }
+        ensures refused { IfErr result (NameFails self.old.log name.now key (stored D.Disk self.old)) }
         ensures kept { OnErr result (SameNames (named self.old) (named self.new)) }
         ensures blobs { SameBlobs (stored D.Disk self.old) (stored D.Disk self.new) }
         ensures stand { NamesStand (content D.Disk self.old) → NamesStand (content D.Disk self.new) }
@@ -77,6 +78,9 @@ impl<D: Disk> BlobFile<D> {
     {
         if !self.log.is_whole {
             return Err(FileError::Shut);
+        }
+        if !self.log.may_write {
+            return Err(FileError::ReadOnly);
         }
         let Some(wanted) = key_of_row(&self.index.places, key) else {
             return Err(FileError::NoSuchBlob);

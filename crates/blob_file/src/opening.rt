@@ -1,9 +1,10 @@
 //! The open of a file: it is found or made, its batches are walked over, its end is repaired.
 
-ghost use Rattle.blob_file.specs.{Format.{is_made}, Opening.{KeepsBatches, KeepsBytesUnlessFailed, Opens, Refuses}};
+ghost use Rattle.blob_file.specs.Opening.{KeepsBatches, KeepsBytesUnlessFailed, Looks, Opens, Refuses};
+ghost use Rattle.blob_file.specs.Format.{is_made};
 ghost use Rattle.blob_file.specs.Rows.{Knows};
 ghost use Rattle.sqlite_disk.specs.Disk.{Only};
-ghost use Rattle.sqlite_wal.specs.Reads.{IsClean};
+ghost use Rattle.sqlite_wal.specs.Reads.{IsClean, OnlyReads};
 ghost use Rattle.std.specs.Prelude.{IfErr, IfOk, IsTrue, false, length, [], ◌≡◌, ◌≤◌};
 
 use crate::file_error::FileError;
@@ -85,4 +86,35 @@ pub fn prepare<D: Disk>(alloc: Global, disk: &mut D, index: &mut Index) -> Resul
     } else {
         open_unmade(disk, len, index)
     }
+}
+
+/// Looks a file over, and returns where its batches end: at 16 if it was never made. The index, empty
+/// at first, has what they say afterwards. No byte is written, and nothing is synced.
+///
+/// What stands behind the last whole batch doesn't count: a copy may have been cut there, or its
+/// writer be in the middle of a flush.
+///
+/// # Errors
+///
+/// `OutOfMemory`, `NotBlobs`, `Damaged`, `Failed`.
+pub fn look_over<D: Disk>(
+    alloc: Global,
+    disk: &mut D,
+    index: &mut Index,
+) -> Result<usize, FileError>
+    requires usable { IsTrue (D.is_usable disk.old) }
+    requires empty { Knows index.old [] }
+    ensures looks { IfOk result (λ gate. Looks D.Disk disk.old gate index.new disk.new) }
+    ensures refused { IfErr result (Refuses (IsClean D.Disk disk.new) (D.seen disk.old) (D.faults disk.old)
+        (D.faults disk.new)) }
+    ensures same { OnlyReads D.Disk disk.old disk.new }
+{
+    let len = disk.len()?;
+    if has_header(disk, len)? {
+        return find_end(alloc, disk, len, index);
+    }
+    if !was_never_made(disk, len)? {
+        return Err(FileError::NotBlobs);
+    }
+    Ok(16)
 }

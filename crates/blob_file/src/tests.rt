@@ -273,6 +273,7 @@ fn blobs_are_listed_and_counted(rt: HostRuntime) -> Result<(), Fail> {
         held_bytes: 20,
     };
     assert!(rt; file.counts() == counts);
+    assert_eq!(rt; file.count_held(), 1);
     Ok(())
 }
 
@@ -301,5 +302,24 @@ fn a_blob_is_found_again(rt: HostRuntime) -> Result<(), Fail> {
     let found = file.fetch(alloc, 7)?;
     assert!(rt; is_body(&found));
     assert!(rt; file.find(8).is_none());
+    Ok(())
+}
+
+#[test]
+fn a_look_at_a_file_without_its_gate_writes_nothing(rt: HostRuntime) -> Result<(), Fail> {
+    let alloc = rt.alloc();
+    let cut = &ONE[..ONE.len() - 1];
+    let mut disk = Memory::new(alloc);
+    disk.write_at(0, cut)?;
+    let mut file = match BlobFile::look(alloc, disk) {
+        Ok(file) => file,
+        Err((error, _)) => return Err(error.into()),
+    };
+    let found = file.fetch(alloc, 7)?;
+    assert!(rt; is_body(&found));
+    assert!(rt; file.add(8, 0, b"more") == Err(FileError::ReadOnly));
+    assert!(rt; file.set_root(alloc, "main", Some(7)) == Err(FileError::ReadOnly));
+    file.flush(alloc)?;
+    assert_eq!(rt; file.log.disk.bytes(), cut);
     Ok(())
 }

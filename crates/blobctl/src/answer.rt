@@ -2,10 +2,11 @@
 
 use crate::blobs::{Blobs, BlobsInFile};
 use crate::command::{Verb, key_of};
+use crate::export::export_database;
 use crate::look::{graph, list, roots, stat, tree};
 use crate::progress::ProgressPrinter;
 use crate::refusal::Refusal;
-use crate::show::{digits, write_flaw};
+use crate::show::write_flaw;
 use pagable_core::PagableData;
 use pagable_flavors::{DataKey, Error};
 use std::alloc::Global;
@@ -17,7 +18,7 @@ pub type Answer = Result<(String, bool), Refusal>;
 fn keys_of(alloc: Global, words: &str) -> Result<Vec<DataKey>, Refusal> {
     let mut keys = Vec::new(alloc);
     for word in words.split_whitespace() {
-        keys.push(key_of(word)?).map_err(Error::from)?;
+        keys.push(key_of(word)?)?;
     }
     Ok(keys)
 }
@@ -37,8 +38,8 @@ fn blob_of(alloc: Global, words: &str) -> Result<PagableData, Refusal> {
 /// Stores the blob that words spell, and returns its key's line.
 fn put<B: Blobs>(alloc: Global, blobs: &mut B, words: &str) -> Result<String, Refusal> {
     let blob = blob_of(alloc, words)?;
-    let key = digits(blobs.store(alloc, blob)?);
-    Ok(format!(in alloc; "{key:032x}\n")?)
+    let key = blobs.store(alloc, blob)?;
+    Ok(format!(in alloc; "{key}\n")?)
 }
 
 /// Makes a name stand for a key, or for none, and says so.
@@ -96,11 +97,10 @@ pub fn copy_roots<B: Blobs>(rt: &HostRuntime, from: &mut B, to: &mut B) -> Resul
     Ok(count)
 }
 
-/// Copies into the file of a path what the roots reach, closes that, and says how many blobs these are.
+/// Copies into the file of a path what the roots reach, and says how many blobs these are.
 fn copy<B: BlobsInFile>(rt: &HostRuntime, blobs: &mut B, path: &str) -> Result<String, Refusal> {
     let mut to = B::open(rt, path)?;
     let count = copy_roots(rt, blobs, &mut to)?;
-    to.close(rt.alloc())?;
     Ok(format!(in rt.alloc(); "{count} blobs copied\n")?)
 }
 
@@ -111,7 +111,8 @@ fn copy<B: BlobsInFile>(rt: &HostRuntime, blobs: &mut B, path: &str) -> Result<S
 /// - `BadLine` if a word after the verb is no key or no bytes.
 /// - `GcAmongLines` for `gc`.
 /// - `Blobs` if a call on the file fails, or one on the file that `copy` writes.
-/// - `File` if the file that `copy` writes can't be opened or closed.
+/// - `File` if the file that `copy` writes can't be opened.
+/// - as `export_database`.
 pub fn answer<B: BlobsInFile>(rt: &HostRuntime, blobs: &mut B, verb: Verb, words: &str) -> Answer {
     let alloc = rt.alloc();
     let text = match verb {
@@ -122,6 +123,7 @@ pub fn answer<B: BlobsInFile>(rt: &HostRuntime, blobs: &mut B, verb: Verb, words
         Verb::Dot => graph(alloc, blobs, key_of(words)?)?,
         Verb::Fsck => return Ok(fsck(rt, blobs)?),
         Verb::Copy => copy(rt, blobs, words)?,
+        Verb::ExportDb => export_database(rt, blobs, words)?,
         Verb::Gc => return Err(Refusal::GcAmongLines),
         Verb::Put => put(alloc, blobs, words)?,
         Verb::Root => parse_and_set_root(alloc, blobs, words)?,

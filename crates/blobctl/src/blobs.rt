@@ -3,10 +3,9 @@
 use pagable_codec::Env;
 use pagable_core::{PagableData, PagableStorage, Roots};
 use pagable_file::copy::copy;
-use pagable_file::{FileBlobs, Flaw, ListedBlob, NameLock, OpenError, Watch};
+use pagable_file::{FileBlobs, FileOfBlobs, Flaw, ListedBlob, OpenError, Watch};
 use pagable_flavors::{DataKey, Error};
-use sqlite::{File, FileStore, Files};
-use sqlite_trees::store::Store;
+use sqlite_disk::Disk;
 use std::alloc::Global;
 use std::sync::Arc;
 
@@ -50,34 +49,24 @@ pub trait Blobs: Drop {
 
 /// Blobs in the file of a path.
 pub trait BlobsInFile: Blobs {
-    /// Opens the file of a path, which it creates if there is none.
+    /// Opens the file of a path to write it, or makes it. It is locked as long as this lives.
     fn open(rt: &HostRuntime, path: &str) -> Result<Self, OpenError>;
 
-    /// Opens the file whose name is locked.
-    fn open_under(rt: &HostRuntime, name: &NameLock) -> Result<Self, OpenError>;
-
-    /// Closes the file, with its log copied into it. The locks on both last as long as what it returns.
-    fn close(self, alloc: Global) -> Result<Files<File>, OpenError>;
+    /// Opens the file of a path to look at it: no byte is written.
+    fn read(rt: &HostRuntime, path: &str) -> Result<Self, OpenError>;
 }
 
-impl<E: Env> BlobsInFile for FileBlobs<E, FileStore<File>> {
-    fn open(rt: &HostRuntime, path: &str) -> Result<FileBlobs<E, FileStore<File>>, OpenError> {
+impl<E: Env> BlobsInFile for FileOfBlobs<E> {
+    fn open(rt: &HostRuntime, path: &str) -> Result<FileOfBlobs<E>, OpenError> {
         FileBlobs::open(rt, path)
     }
 
-    fn open_under(
-        rt: &HostRuntime,
-        name: &NameLock,
-    ) -> Result<FileBlobs<E, FileStore<File>>, OpenError> {
-        FileBlobs::open_under(rt, name)
-    }
-
-    fn close(self, alloc: Global) -> Result<Files<File>, OpenError> {
-        self.close_files(alloc)
+    fn read(rt: &HostRuntime, path: &str) -> Result<FileOfBlobs<E>, OpenError> {
+        FileBlobs::read(rt, path)
     }
 }
 
-impl<E: Env, S: Store + Drop> Blobs for FileBlobs<E, S> {
+impl<E: Env, D: Disk + Drop> Blobs for FileBlobs<E, D> {
     fn list(&mut self, alloc: Global) -> Result<Vec<ListedBlob>, Error> {
         FileBlobs::list(self, alloc)
     }

@@ -1,132 +1,86 @@
 //! Drops what no root of a file reaches: a copy beside the file takes its place.
 //!
-//! The locks on both files and on their names are held from the start to the end, and each log is gone
-//! before its file has another's name. So no program opens a file with the log of the other one, and
-//! wherever this one is cut off, FILE is the old file, with its log or whole without one, or the new
+//! Both files stay open, and so locked, until the new one has FILE's name on the disk. So nobody adds
+//! to a file that was copied already, and wherever this is cut off, FILE is the old file or the new
 //! one, whole.
 
 use crate::answer::{Answer, copy_roots};
 use crate::blobs::BlobsInFile;
+use crate::new_file::{make_file, remove, sync_folder};
 use crate::refusal::Refusal;
-use pagable_file::NameLock;
-use sqlite::{File, Files};
-use std::alloc::{AllocError, Global};
-use std::fs::OpenOptions;
-use std::os::unix::fs::OpenOptionsExt;
+use blob_host::{FileFacts, facts_at};
+use pagable_file::OpenError;
+use std::fs::{File, Permissions};
+use std::os::unix::fs::{PermissionsExt, fchown};
 use std::path::PathBuf;
 use std::{fs, io};
 
-/// A file of blobs that is closed, and whole without its log. The locks on it last as long as this.
-#[derive(Drop)]
-struct ClosedFile {
-    name: NameLock,
-    files: Files<File>,
-}
-
-/// Returns `path` with `more` appended.
-fn path_with(alloc: Global, path: &str, more: &str) -> Result<String, AllocError> {
-    format!(in alloc; "{path}{more}")
-}
-
-/// Removes a file, if it is there.
-fn remove(rt: &HostRuntime, path: &str) -> io::Result<()> {
-    match fs::remove_file(rt, path) {
-        Err(error) if error.kind() == io::ErrorKind::NotFound => Ok(()),
+/// Passes over a refusal for lack of rights.
+fn unless_denied(outcome: io::Result<()>) -> io::Result<()> {
+    match outcome {
+        Err(error) if error.kind() == io::ErrorKind::PermissionDenied => Ok(()),
         other => other,
     }
 }
 
-/// Removes the log beside a file, which holds nothing once the file was closed.
-fn remove_log(rt: &HostRuntime, path: &str) -> io::Result<()> {
-    let log = path_with(rt.alloc(), path, "-wal")?;
-    remove(rt, log.as_str())
+/// Gives the file of a path the mode of another one, and its owner and group where this process may
+/// set them, and syncs it.
+fn give_access(rt: &HostRuntime, path: &str, like: &FileFacts) -> io::Result<()> {
+    let file = File::open(rt, path)?;
+    unless_denied(fchown(&file, None, Some(like.group)))?;
+    unless_denied(fchown(&file, Some(like.owner), None))?;
+    file.set_permissions(Permissions::from_mode(like.mode & 0o777))?;
+    file.sync_all()
 }
 
-/// Makes sure that the folder of a path has on the disk the names that it has.
-fn sync_folder(rt: &HostRuntime, path: &str) -> io::Result<()> {
-    let mut folder = PathBuf::from_str(rt.alloc(), path)?;
-    folder.pop();
-    fs::File::open(rt, folder.as_str())?.sync_all()
-}
-
-/// Fails if something has the name of a path.
-fn refuse_taken(rt: &HostRuntime, path: &str) -> Result<(), Refusal> {
-    match fs::symlink_metadata(rt, path) {
-        Err(error) if error.kind() == io::ErrorKind::NotFound => Ok(()),
-        Err(error) => Err(Refusal::System(error)),
-        Ok(_) => Err(Refusal::Taken(String::from_str(rt.alloc(), path)?)),
+/// Tells of the file of a path. Fails if it has other names too, which would go on to name the old
+/// file.
+fn find_facts(rt: &HostRuntime, path: &str) -> Result<FileFacts, Refusal> {
+    match facts_at(rt, path).map_err(OpenError::from)? {
+        Some(facts) if facts.links == 1 => Ok(facts),
+        Some(facts) => Err(Refusal::HasOtherNames(facts.links)),
+        None => Err(Refusal::File(OpenError::Missing)),
     }
 }
 
-/// Makes an empty file at a path that only its owner can open. Neither it nor its log may be there.
-fn make_file(rt: &HostRuntime, path: &str) -> Result<fs::File, Refusal> {
-    refuse_taken(rt, path)?;
-    let log = path_with(rt.alloc(), path, "-wal")?;
-    refuse_taken(rt, log.as_str())?;
-    let mut options = OpenOptions::new();
-    options.write(true).create_new(true).mode(0o600);
-    let made = options.open(rt, path)?;
-    Ok(made)
-}
-
-/// Copies into the empty file at a path what the roots reach, closes it, and returns how many blobs
-/// these are.
-fn fill<B: BlobsInFile>(
+/// Copies into the empty file at `new` what the roots reach, and gives it the access and the name of
+/// the file at `path`, which is open and of which these are the facts. Returns how many blobs are kept.
+fn fill_and_replace<B: BlobsInFile>(
     rt: &HostRuntime,
     blobs: &mut B,
     path: &str,
-) -> Result<(usize, ClosedFile), Refusal> {
-    let name = NameLock::take(rt, path)?;
-    let mut to = B::open_under(rt, &name)?;
-    let count = copy_roots(rt, blobs, &mut to)?;
-    let files = to.close(rt.alloc())?;
-    Ok((count, ClosedFile { name, files }))
-}
-
-/// Puts a new file in the place of an old one. Both are closed, and stay locked until the new one has
-/// the name.
-fn replace(rt: &HostRuntime, old: &ClosedFile, new: &ClosedFile) -> io::Result<()> {
-    let path = old.name.path();
-    remove_log(rt, new.name.path())?;
-    remove_log(rt, path)?;
-    sync_folder(rt, path)?;
-    fs::rename(rt, new.name.path(), path)?;
-    sync_folder(rt, path)
-}
-
-/// Copies into a file that was made at a path what the roots reach, and puts it in the place of the
-/// file whose name is locked, with the access of that one. Returns how many blobs are kept.
-fn fill_and_replace<B: BlobsInFile>(
-    rt: &HostRuntime,
-    name: NameLock,
-    mut blobs: B,
-    made: fs::File,
-    path: &str,
+    facts: &FileFacts,
+    new: &str,
 ) -> Result<usize, Refusal> {
-    name.copy_access(&made)?;
-    made.sync_all()?;
-    let (count, new) = fill(rt, &mut blobs, path)?;
-    let files = blobs.close(rt.alloc())?;
-    replace(rt, &ClosedFile { name, files }, &new)?;
+    // (it stays locked until the end)
+    let mut to = B::open(rt, new)?;
+    let count = copy_roots(rt, blobs, &mut to)?;
+    give_access(rt, new, facts)?;
+    fs::rename(rt, new, path)?;
+    sync_folder(rt, path)?;
     Ok(count)
 }
 
-/// Drops all blobs that no root reaches, and says how many are kept. The file's name is locked, and the
-/// file is open under that lock.
+/// Drops all blobs that no root of the file at a path reaches, and says how many are kept. The path has
+/// no link in it, and `blobs` is that file, open to be written.
 ///
 /// # Errors
 ///
-/// - `Taken` if there is a file FILE.new, or a log of one.
-/// - `Blobs` if a call on either file fails, `File` if a file can't be opened or closed, `System` if
-///   one can't be made, moved or removed: the file has what it had, or the new one has its place.
+/// - `Taken` if something has the name FILE.new.
+/// - `HasOtherNames` if FILE has several names.
+/// - `Blobs` if a call on either file fails, `File` if the new one can't be opened, `System` if it
+///   can't be made, given FILE's access or moved: the file has what it had, and FILE.new is gone, or
+///   the new one has its place.
 /// - `Blobs` with `OutOfMemory` also if the answer can't get memory: the file is replaced then.
-pub fn collect_garbage<B: BlobsInFile>(rt: &HostRuntime, name: NameLock, blobs: B) -> Answer {
-    let new = path_with(rt.alloc(), name.path(), ".new")?;
-    let made = make_file(rt, new.as_str())?;
-    match fill_and_replace(rt, name, blobs, made, new.as_str()) {
+pub fn collect_garbage<B: BlobsInFile>(rt: &HostRuntime, path: &PathBuf, blobs: &mut B) -> Answer {
+    let path = path.as_str();
+    let facts = find_facts(rt, path)?;
+    let new = format!(in rt.alloc(); "{path}.new")?;
+    make_file(rt, new.as_str(), 0o600)?;
+    match fill_and_replace(rt, blobs, path, &facts, new.as_str()) {
         Ok(count) => Ok((format!(in rt.alloc(); "{count} blobs kept\n")?, true)),
         Err(refusal) => {
-            let _removed = (remove_log(rt, new.as_str()), remove(rt, new.as_str()));
+            let _removed = remove(rt, new.as_str());
             Err(refusal)
         }
     }

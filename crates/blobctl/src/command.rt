@@ -20,6 +20,8 @@ pub enum Verb {
     Fsck,
     /// `copy FILE`: copies into FILE what the roots reach.
     Copy,
+    /// `export-db FILE`: writes a database that SQLite reads.
+    ExportDb,
     /// `gc`: drops what no root reaches.
     Gc,
     /// `put HEX KEY..`: stores a blob of these bytes and child keys.
@@ -33,29 +35,19 @@ pub enum Verb {
 }
 
 impl Verb {
-    /// Returns whether the command creates the file if there is none: it stores, sets or flushes.
-    pub fn creates_file(self) -> bool {
-        match self {
-            Verb::Put | Verb::Root | Verb::Drop | Verb::Flush => true,
-            _ => false,
-        }
+    /// Returns whether the command changes the file, and so makes it if there is none.
+    pub fn stores_or_sets(self) -> bool {
+        matches!(self, Verb::Put | Verb::Root | Verb::Drop | Verb::Flush)
     }
 }
 
-/// Reads a key from 32 hex digits.
+/// Reads a key from a word.
 ///
 /// # Errors
 ///
-/// - `BadLine` if the word is anything else, or all digits are 0.
+/// - `BadLine` if the word is none.
 pub fn key_of(word: &str) -> Result<DataKey, Refusal> {
-    let mut bytes = [0; 16];
-    if hex::decode_to_slice(word, &mut bytes).is_err() {
-        return Err(Refusal::BadLine);
-    }
-    match DataKey::new(u128::from_le_bytes(bytes)) {
-        Some(key) => Ok(key),
-        None => Err(Refusal::BadLine),
-    }
+    word.parse().map_err(|_| Refusal::BadLine)
 }
 
 /// Reads the verb of a line, and the words after it. Returns None for a line that is no command. One
@@ -87,6 +79,7 @@ fn verb_before_words(word: &str) -> Option<Verb> {
         "tree" => Some(Verb::Tree),
         "dot" => Some(Verb::Dot),
         "copy" => Some(Verb::Copy),
+        "export-db" => Some(Verb::ExportDb),
         "put" => Some(Verb::Put),
         "root" => Some(Verb::Root),
         "drop" => Some(Verb::Drop),

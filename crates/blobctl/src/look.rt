@@ -2,7 +2,7 @@
 
 use crate::blobs::Blobs;
 use crate::reach::{ReachedBlob, walk_from};
-use crate::show::{digits, write_blob, write_point};
+use crate::show::{write_blob, write_point};
 use pagable_file::ListedBlob;
 use pagable_flavors::{DataKey, Error};
 use std::alloc::{AllocError, Global};
@@ -47,7 +47,7 @@ pub fn roots<B: Blobs>(alloc: Global, blobs: &mut B) -> Result<String, Error> {
     let mut text = String::new(alloc);
     for name in &blobs.root_names(alloc)? {
         if let Some(key) = blobs.root(name.as_str())? {
-            writeln!(text, "{} {:032x}", name.escape_debug(), digits(key))?;
+            writeln!(text, "{} {key}", name.escape_debug())?;
         }
     }
     Ok(text)

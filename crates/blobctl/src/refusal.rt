@@ -1,9 +1,9 @@
 //! Why a command fails.
 
-use crate::show::digits;
 use pagable_file::{Fault, OpenError};
-use pagable_flavors::Error;
-use std::alloc::AllocError;
+use pagable_flavors::{DataKey, Error};
+use sqlite::Error as SqlError;
+use std::alloc::{AllocError, AllocFailed};
 use std::{fmt, io};
 
 /// Why a command fails.
@@ -15,12 +15,20 @@ pub enum Refusal {
     GcAmongLines,
     /// A call on the blobs failed.
     Blobs(Error),
-    /// A file couldn't be opened or closed.
+    /// A file couldn't be opened.
     File(OpenError),
     /// A file couldn't be made, moved or removed.
     System(io::Error),
     /// A file has this path already, where a new one is to be made.
     Taken(String),
+    /// The file has so many names, and only one of them could name the new file.
+    HasOtherNames(u64),
+    /// A call on a database failed.
+    Database(SqlError),
+    /// A row of a database is no blob's, or no name's.
+    OddRow,
+    /// A database has another blob under a key.
+    OtherKey(DataKey),
 }
 
 impl From<Error> for Refusal {
@@ -35,9 +43,21 @@ impl From<AllocError> for Refusal {
     }
 }
 
+impl<T: Drop> From<AllocFailed<T>> for Refusal {
+    fn from(error: AllocFailed<T>) -> Refusal {
+        Refusal::Blobs(Error::from(error))
+    }
+}
+
 impl From<OpenError> for Refusal {
     fn from(error: OpenError) -> Refusal {
         Refusal::File(error)
+    }
+}
+
+impl From<SqlError> for Refusal {
+    fn from(error: SqlError) -> Refusal {
+        Refusal::Database(error)
     }
 }
 
@@ -61,6 +81,13 @@ impl fmt::Display for Refusal {
                 f,
                 "error: {path} is there already: remove it, or give it another name"
             ),
+            Refusal::HasOtherNames(count) => write!(
+                f,
+                "error: the file has {count} names, and the others would keep the old file"
+            ),
+            Refusal::Database(error) => write!(f, "error: the database: {error}"),
+            Refusal::OddRow => f.write_str("error: a row of the database is no blob's or name's"),
+            Refusal::OtherKey(key) => { write!(f, "error: the blob under {key} has another key") }
         }
     }
 }
@@ -68,7 +95,7 @@ impl fmt::Display for Refusal {
 /// Writes why a call on the blobs failed.
 fn write_error<W: fmt::Write>(f: &mut fmt::Formatter<W>, error: &Error) -> fmt::Result {
     match error {
-        Error::NoData(key) => write!(f, "error: no blob stands under {:032x}", digits(*key)),
+        Error::NoData(key) => write!(f, "error: no blob stands under {key}"),
         Error::Storage(code) => match Fault::of_code(*code) {
             Some(fault) => write!(f, "error: {fault}"),
             None => write!(f, "error: storage {code}"),

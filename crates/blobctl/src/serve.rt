@@ -4,8 +4,9 @@ use crate::answer::{Answer, answer};
 use crate::blobs::BlobsInFile;
 use crate::collect::collect_garbage;
 use crate::command::{Verb, parse};
+use crate::import::import_database;
 use crate::refusal::Refusal;
-use pagable_file::{NameLock, OpenError};
+use pagable_file::OpenError;
 use std::io::{BufRead, BufReader};
 use std::{fs, io};
 
@@ -74,15 +75,7 @@ fn run_alone<B: BlobsInFile>(
     }
 }
 
-/// Returns whether the file isn't there, and the line is a command that doesn't create it.
-fn finds_no_file(rt: &HostRuntime, path: &str, line: &str) -> io::Result<bool> {
-    match parse(line) {
-        Some((verb, _)) if !verb.creates_file() => Ok(!fs::exists(rt, path)?),
-        _ => Ok(false),
-    }
-}
-
-/// Tells why the file of a path can't be opened or closed, and returns false.
+/// Tells why the file of a path can't be opened, and returns false.
 ///
 /// # Errors
 ///
@@ -92,54 +85,63 @@ pub fn tell(rt: &HostRuntime, path: &str, error: OpenError) -> io::Result<bool> 
     Ok(false)
 }
 
-/// Opens the file of a path, and keeps its name locked.
-fn open_and_lock<B: BlobsInFile>(rt: &HostRuntime, path: &str) -> Result<(NameLock, B), OpenError> {
-    let name = NameLock::take(rt, path)?;
-    let blobs = B::open_under(rt, &name)?;
-    Ok((name, blobs))
+/// Makes the file of a path of the database at `old`, and says what came of it. Returns false if that
+/// fails.
+///
+/// # Errors
+///
+/// - an error of writing.
+pub fn serve_import<B: BlobsInFile>(rt: &HostRuntime, old: &str, path: &str) -> io::Result<bool> {
+    print_answer(rt, import_database::<B>(rt, old, path))
 }
 
-/// Drops what no root of the file of a path reaches. Returns false if that fails.
+/// Drops what no root of the file of a path reaches, or of the file to which a link there leads.
+/// Returns false if that fails.
 fn run_gc<B: BlobsInFile>(rt: &HostRuntime, path: &str) -> io::Result<bool> {
-    match open_and_lock::<B>(rt, path) {
-        Ok((name, blobs)) => print_answer(rt, collect_garbage(rt, name, blobs)),
+    if !fs::exists(rt, path)? {
+        return tell(rt, path, OpenError::Missing);
+    }
+    let found = fs::canonicalize(rt, path)?;
+    match B::open(rt, found.as_str()) {
+        Ok(mut blobs) => print_answer(rt, collect_garbage(rt, &found, &mut blobs)),
         Err(error) => tell(rt, path, error),
     }
 }
 
-/// Opens the file of a path, runs a command or, for none, those of the input, and closes the file.
-/// Returns false if the file can't be opened or closed, the command fails, or it finds a flaw.
+/// Opens the file of a path as a command asks for it: to write it, or to look at it.
+fn open_for<B: BlobsInFile>(
+    rt: &HostRuntime,
+    path: &str,
+    command: Option<(Verb, &str)>,
+) -> Result<B, OpenError> {
+    match command {
+        Some((verb, _)) if !verb.stores_or_sets() => B::read(rt, path),
+        _ => B::open(rt, path),
+    }
+}
+
+/// Opens the file of a path, and runs a command or, for none, those of the input. Returns false if the
+/// file can't be opened, the command fails, or it finds a flaw.
 fn run_over_file<B: BlobsInFile>(
     rt: &HostRuntime,
     path: &str,
     command: Option<(Verb, &str)>,
 ) -> io::Result<bool> {
-    let mut blobs = match B::open(rt, path) {
-        Ok(blobs) => blobs,
-        Err(error) => return tell(rt, path, error),
-    };
-    let done = match command {
-        Some((verb, words)) => run_alone(rt, &mut blobs, verb, words),
-        None => run_lines(rt, &mut blobs),
-    };
-    match blobs.close(rt.alloc()) {
-        Ok(_) => done,
-        Err(error) => tell(rt, path, error),
+    match (open_for::<B>(rt, path, command), command) {
+        (Ok(mut blobs), Some((verb, words))) => run_alone(rt, &mut blobs, verb, words),
+        (Ok(mut blobs), None) => run_lines(rt, &mut blobs),
+        (Err(error), _) => tell(rt, path, error),
     }
 }
 
-/// Runs the command of a line over the file of a path or, if the line is empty, those of the input, and
-/// closes the file. Returns false if the file can't be opened or closed, the command fails, or it finds
-/// a flaw. Only an empty line and a command that stores, sets or flushes create the file.
+/// Runs the command of a line over the file of a path or, if the line is empty, those of the input.
+/// Returns false if the file can't be opened, the command fails, or it finds a flaw. Only an empty line
+/// and a command that stores, sets or flushes make the file or write to it, but for `gc`.
 ///
 /// # Errors
 ///
 /// - an error of reading or writing, or of making a buffer.
 pub fn serve<B: BlobsInFile>(rt: &HostRuntime, path: &str, line: &str) -> io::Result<bool> {
-    if finds_no_file(rt, path, line)? {
-        eprintln!(rt; "blobctl: {path}: there is no such file")?;
-        return Ok(false);
-    }
     match parse(line) {
         Some((Verb::Gc, _)) => run_gc::<B>(rt, path),
         command => run_over_file::<B>(rt, path, command),

@@ -2,30 +2,23 @@
 
 use crate::reach::ReachedBlob;
 use pagable_file::{Flaw, ListedBlob};
-use pagable_flavors::DataKey;
 use std::alloc::AllocError;
-
-/// Returns the number whose 32 hex digits show a key.
-pub fn digits(key: DataKey) -> u128 {
-    key.get().swap_bytes()
-}
 
 /// Appends a line with a blob's key, and how many bytes and children it has.
 pub fn write_blob(text: &mut String, blob: &ListedBlob) -> Result<(), AllocError> {
-    let key = digits(blob.key);
     writeln!(
         text,
-        "{key:032x} {} bytes, {} children",
-        blob.bytes, blob.children
+        "{} {} bytes, {} children",
+        blob.key, blob.bytes, blob.children
     )
 }
 
 /// Adds a blob as a point of a graph, with an edge to each child.
 pub fn write_point(text: &mut String, reached: &ReachedBlob) -> Result<(), AllocError> {
-    let key = digits(reached.blob.key);
-    writeln!(text, "  \"{key:032x}\";")?;
+    let key = reached.blob.key;
+    writeln!(text, "  \"{key}\";")?;
     for child in &reached.children {
-        writeln!(text, "  \"{key:032x}\" -> \"{:032x}\";", digits(*child))?;
+        writeln!(text, "  \"{key}\" -> \"{child}\";")?;
     }
     Ok(())
 }
@@ -33,16 +26,23 @@ pub fn write_point(text: &mut String, reached: &ReachedBlob) -> Result<(), Alloc
 /// Appends a line that describes a flaw. What isn't printable in a name is escaped.
 pub fn write_flaw(text: &mut String, flaw: &Flaw) -> Result<(), AllocError> {
     match flaw {
-        Flaw::StrayBlob(place) => writeln!(text, "the row of blobs at {place} is no key's"),
-        Flaw::WrongKey(key) => writeln!(text, "{:032x} has another key", digits(*key)),
-        Flaw::MissingChild(key, child) => {
-            let (key, child) = (digits(*key), digits(*child));
-            writeln!(text, "{key:032x} refers to {child:032x}, which is missing")
+        Flaw::StrayBlob(number) => {
+            writeln!(
+                text,
+                "what stands under {:032x} is no blob",
+                number.swap_bytes()
+            )
         }
-        Flaw::StrayRoot(place) => writeln!(text, "the row of roots at {place} is no name's"),
+        Flaw::WrongKey(key) => writeln!(text, "{key} has another key"),
+        Flaw::MissingChild(key, child) => {
+            writeln!(text, "{key} refers to {child}, which is missing")
+        }
         Flaw::MissingRoot(name, key) => {
-            let (name, key) = (name.escape_debug(), digits(*key));
-            writeln!(text, "root {name} is {key:032x}, which is missing")
+            writeln!(
+                text,
+                "root {} is {key}, which is missing",
+                name.escape_debug()
+            )
         }
     }
 }

@@ -5,42 +5,23 @@ use crate::serve::tell;
 use named_texts::TextEnv;
 use named_texts::serve::{ServeError, serve_durable};
 use pagable_core::Sha256Key;
-use pagable_file::{FileBlobs, OpenError};
-use sqlite::{File, FileStore};
+use pagable_file::{FileBlobs, FileOfBlobs};
 use std::io;
 use std::io::BufReader;
 use std::sync::Wait;
 
 /// A file of blobs of texts, with keys by SHA-256.
-type TextBlobs = FileBlobs<TextEnv<Sha256Key>, FileStore<File>>;
+type TextBlobs = FileOfBlobs<TextEnv<Sha256Key>>;
 
-/// Opens the file of a path and closes it, so that its log is copied into it. If another program has it
-/// open by now, that one has to close it.
-fn close_again(rt: &HostRuntime, path: &str) -> Result<(), OpenError> {
-    match TextBlobs::open(rt, path) {
-        Ok(blobs) => {
-            blobs.close_files(rt.alloc())?;
-            Ok(())
-        }
-        Err(OpenError::InUse) => Ok(()),
-        Err(error) => Err(error),
-    }
-}
-
-/// Answers each line of the input over the texts in the file of a path, and closes the file. Returns
-/// false if the file can't be opened or closed, or its names of roots can't be read. It waits for locks
-/// by `waits`.
+/// Answers each line of the input over the texts in the file of a path. Returns false if the file can't
+/// be opened, or its names of roots can't be read. It waits for locks by `waits`.
 ///
 /// # Errors
 ///
 /// - an error of reading or writing, or of making a buffer: the call writes nothing more.
 pub fn serve_texts<W: Wait>(rt: &HostRuntime, waits: &W, path: &str) -> io::Result<bool> {
-    let done = match TextBlobs::open(rt, path) {
+    match FileBlobs::open(rt, path) {
         Ok(blobs) => serve_lines(rt, waits, path, blobs),
-        Err(error) => return tell(rt, path, error),
-    };
-    match close_again(rt, path) {
-        Ok(()) => done,
         Err(error) => tell(rt, path, error),
     }
 }

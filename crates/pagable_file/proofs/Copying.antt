@@ -1,8 +1,7 @@
 -- Copying what roots reach.
 use Rattle.pagable_core.specs.Roots.{Sets}
 use Rattle.pagable_file.proofs.Each.{each_so}
-use Rattle.pagable_file.specs.Copies.{AreCopied, CountsCopied, HasCopied, HasWantedRoot, IsCopied, IsCopiedRoot, IsInBoth, IsPath, KeySet, Reaches, StaysOrCopies, StaysOrSets, end_of}
-use Rattle.pagable_file.specs.Names.{is_among}
+use Rattle.pagable_file.specs.Copies.{AreCopied, CountsCopied, HasCopied, HasWantedRoot, IsCopied, IsCopiedRoot, IsInBoth, IsPath, KeySet, Reaches, StaysOrCopies, StaysOrSets, end_of, is_among}
 use Rattle.pagable_value_spec.specs.{Blob.Blob, Stored.{Adds, Keeps}, declared.error.Error.Error}
 use Rattle.std.proofs.{
   Common.{Bool, Err, IsSome, IsTrue, List, None, Ok, Option, Result, Some, String, arith, false, get_or, inl, inr, length, map, refl, string_bytes, subst, sym},

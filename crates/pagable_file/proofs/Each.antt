@@ -1,9 +1,9 @@
 -- What holds of each item of a list.
 use Rattle.std.proofs.{
-  Common.{Bool, List, Some, false, get_or, length, refl, subst, take, true, ℕ, [], ◌++◌, ◌+◌, ◌<◌, ◌∷◌, ◌≡◌},
+  Common.{List, get_or, length, take, ℕ, [], ◌++◌, ◌+◌, ◌<◌, ◌∷◌, ◌≡◌},
   lemmas.List.take_more,
 }
-use Rattle.std.specs.{List.AllByRecursion as Each, Map.lookup}
+use Rattle.std.specs.List.{AllByRecursion as Each}
 
 pub each_so : {X : Type 0} (P Q : X → Type 0) (xs : List X) → ((x : X) → P x → Q x) → Each P xs → Each Q xs
 each_so P Q [] goes all = tt
@@ -18,13 +18,3 @@ all_with P Q x goes here (y ∷ ys) all = (goes y all.0, all_with P Q x goes her
 pub each_more : {X : Type 0} (P Q : X → Type 0) (xs : List X) (i : ℕ) (x : X) → i < length xs → x ≡ get_or xs i x → ((y : X) → P y → Q y)
     → Each P (take i xs) → Q x → Each Q (take (i + 1) xs)
 each_more P Q xs i x h is goes all here = rw (take_more xs i x h, ← is) (all_with P Q x goes here (take i xs) all)
-
--- what holds of each entry holds of one that is found
-pub of_found : {K A : Type 0} (P : A → Type 0) (test : K → Bool) (entries : List (K × A)) (it : A) → Each (λ e. P e.1) entries
-    → lookup test entries ≡ Some it → P it
-of_found P test [] it all at = absurd (cc)
-of_found P test ((k, x) ∷ entries) it all at = go (test k) refl (of_found P test entries it all.1)
-  where
-    go : (b : Bool) → test k ≡ b → (lookup test entries ≡ Some it → P it) → P it
-    go true t more = subst P (cc) all.0
-    go false t more = more (cc)

@@ -1,6 +1,7 @@
 -- Keys as bytes, and back.
-use Rattle.pagable_file.proofs.Each.{each_more}
-use Rattle.pagable_file.specs.Rows.{CanBeKey, key_in, keys_from, keys_in, with_key}
+use Rattle.blob_file.proofs.KeyBytes.{read_back}
+use Rattle.pagable_file.proofs.Each.{all_with}
+use Rattle.pagable_file.specs.Bodies.{CanBeKey, key_in, keys_from, keys_in, with_key}
 use Rattle.std.proofs.{
   Common.{Bool, List, None, Option, Some, ap, append-nil, append_assoc, arith, drop, false, get_or, length, length-append, refl, suc, sym, take, true, zero, ℕ},
   Common.{[], ◌%◌, ◌*◌, ◌++◌, ◌+◌, ◌/◌, ◌<◌, ◌^◌, ◌∙◌, ◌∷◌, ◌≡◌},
@@ -13,24 +14,6 @@ use Rattle.std.specs.{
   Prelude.{option_map, ◌==◌},
 }
 
--- the rest by m, and the rest of the quotient, make the rest by 256 m
-split : (n m r t a b : ℕ) → a + m * (r + 256 * t) ≡ n → b + m * 256 * t ≡ n → a + r * m ≡ b
-split n m r t a b h g = omega arith
-
--- the bytes of a number up to this one are its rest
-lows : (n k : ℕ) → sum_through (λ i. byte_worth i (byte_at i n)) k ≡ n % 256 ^ suc k
-lows n zero = refl
-lows n (suc k) =
-    let m = 256 ^ suc k in
-    let q = n / m in
-    let quotient : q % 256 + 256 * (q / 256) ≡ q = mod-add-div q 256 in
-    let whole : n % m + m * (q % 256 + 256 * (q / 256)) ≡ n = ap (λ x. n % m + m * x) quotient ∙ mod-add-div n m in
-    let next : n % (m * 256) + m * 256 * (q / 256) ≡ n = ap (λ x. n % (m * 256) + m * 256 * x) (div-div-eq-div-mul n m 256) ∙ mod-add-div n (m * 256) in
-    ap (λ x. x + q % 256 * m) (lows n k) ∙ split n m (q % 256) (q / 256) (n % m) (n % (m * 256)) whole next ∙ ap (λ x. n % x) (sym (pow-suc 256 (suc k)))
-
-pub read_back : (n : ℕ) → n < 2 ^ 128 → from_le_bytes w128 (to_le_bytes w128 n) ≡ n
-read_back n fits = lows n 15 ∙ omega arith
-
 pub key_back : (n : ℕ) → CanBeKey n → key_in (to_le_bytes w128 n) ≡ Some n
 unfolding key_in
 key_back n h = grind (arith, nat_tests, read_back n h.1)
@@ -40,7 +23,7 @@ unfolding keys_from
 keys_back [] h = refl
 keys_back (k ∷ ks) h = rw (key_back k h.0, keys_back ks h.1) refl
 
-keys-length : (ks : List ℕ) → length (flat_map (to_le_bytes w128) ks) ≡ 16 * length ks
+pub keys-length : (ks : List ℕ) → length (flat_map (to_le_bytes w128) ks) ≡ 16 * length ks
 keys-length [] = refl
 keys-length (k ∷ ks) = omega (arith, length-append (to_le_bytes w128 k) (flat_map (to_le_bytes w128) ks), keys-length ks)
 
@@ -87,4 +70,4 @@ continues f keys i key front more h is e = rw (e, take_more keys i key h, ← is
 
 pub more_fit : (keys : List ℕ) (i key : ℕ) → i < length keys → key ≡ get_or keys i key → CanBeKey key → Each CanBeKey (take i keys)
     → Each CanBeKey (take (i + 1) keys)
-more_fit keys i key h is here all = each_more CanBeKey CanBeKey keys i key h is (λ k fits. fits) all here
+more_fit keys i key h is here all = rw (take_more keys i key h, ← is) (all_with CanBeKey CanBeKey key (λ k fits. fits) here (take i keys) all)

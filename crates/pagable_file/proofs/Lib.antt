@@ -1,15 +1,6 @@
-mod Committing
 mod Copying
 mod Each
-mod Entries
-mod Fetching
 mod Flawed
 mod Keys
-mod MapNames
-mod Named
-mod Names
-mod Opening
-mod Places
-mod Putting
-mod Scanning
-mod Settling
+mod Naming
+mod Stored

@@ -1,14 +1,16 @@
 -- What a copy of one storage's blobs into another contains.
-use Rattle.pagable_file.specs.Names.{is_among}
 use Rattle.pagable_value_spec.specs.Blob.{Blob}
 use Rattle.std.specs.{
   HashMap.{HashMap, get},
-  List.{AllByRecursion, AllPairs, Contains},
-  Prelude.{IsSome, IsTrue, List, Option, Some, String, length, nat_eq, string_bytes, ℕ, [], ◌∷◌, ◌≡◌, ◌≢◌},
+  List.{AllByRecursion, AllPairs, Contains, list_any},
+  Prelude.{Bool, IsSome, IsTrue, List, Option, Some, String, length, nat_eq, string_bytes, ℕ, [], ◌∷◌, ◌≡◌, ◌≢◌},
   Prelude.◌⊎◌,
   Str.bytes_eq,
   declared.hash.{BuildHasherDefault.BuildHasherDefault, FoldHasher.FoldHasher},
 }
+
+abbrev pub is_among : {A : Type 0} → List ℕ → List (String A) → Bool
+is_among name names = list_any (λ it. bytes_eq name (string_bytes it)) names
 
 -- the keys that were copied
 abbrev pub KeySet : Type 0

@@ -1,7 +1,6 @@
-pub mod Rows
-pub mod Blobs
-pub mod Closing
-pub mod Flaws
-pub mod Listed
-pub mod Names
+pub mod Bodies
 pub mod Copies
+pub mod Flaws
+pub mod Laws
+pub mod Listed
+pub mod Settled

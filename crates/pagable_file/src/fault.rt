@@ -1,6 +1,6 @@
 //! The faults of a file of blobs.
 
-use sqlite_trees::error::StoreError;
+use blob_file::file_error::FileError;
 use std::fmt;
 
 /// The meaning of the code in [`pagable_flavors::Error::Storage`], if a file of blobs returned it.
@@ -10,26 +10,23 @@ pub enum Fault {
     Io,
     /// The file is damaged, or the blob under the key has another key.
     Damaged,
-    /// The disk or the file has no room.
-    Full,
     /// An earlier failure shut the file; it works again only after another open.
     Shut,
-    /// The blob is longer than a row of a table may be: a billion bytes.
+    /// The blob has 4 GiB of bytes or 2^32 child keys or more, or the file would have 2^64 bytes.
     TooLong,
-    /// Another key or name has the rowid that the given key or name needs.
-    PlaceTaken,
+    /// The file was opened for looking alone.
+    ReadOnly,
 }
 
 impl Fault {
-    /// Returns the code for [`pagable_flavors::Error::Storage`], from 1 to 6.
+    /// Returns the code for [`pagable_flavors::Error::Storage`]: 1, 2, 4, 5 or 6.
     pub fn code(self) -> u32 {
         match self {
             Fault::Io => 1,
             Fault::Damaged => 2,
-            Fault::Full => 3,
             Fault::Shut => 4,
             Fault::TooLong => 5,
-            Fault::PlaceTaken => 6,
+            Fault::ReadOnly => 6,
         }
     }
 
@@ -38,23 +35,24 @@ impl Fault {
         match code {
             1 => Some(Fault::Io),
             2 => Some(Fault::Damaged),
-            3 => Some(Fault::Full),
             4 => Some(Fault::Shut),
             5 => Some(Fault::TooLong),
-            6 => Some(Fault::PlaceTaken),
+            6 => Some(Fault::ReadOnly),
             _ => None,
         }
     }
 
-    /// Returns the fault of an error of a table's store, or None for `OutOfMemory`.
-    pub fn of_store(error: StoreError) -> Option<Fault> {
+    /// Returns the fault of an error of the file below, or None for `OutOfMemory`.
+    pub fn of_file(error: FileError) -> Option<Fault> {
         match error {
-            StoreError::OutOfMemory => None,
-            StoreError::Io => Some(Fault::Io),
-            StoreError::Corrupt => Some(Fault::Damaged),
-            StoreError::Full => Some(Fault::Full),
-            StoreError::Broken => Some(Fault::Shut),
-            StoreError::Unstorable => Some(Fault::TooLong),
+            FileError::OutOfMemory => None,
+            FileError::NotBlobs | FileError::Damaged | FileError::NoSuchBlob => Some(
+                Fault::Damaged,
+            ),
+            FileError::Failed => Some(Fault::Io),
+            FileError::Shut => Some(Fault::Shut),
+            FileError::TooLong => Some(Fault::TooLong),
+            FileError::ReadOnly => Some(Fault::ReadOnly),
         }
     }
 }
@@ -64,10 +62,9 @@ impl fmt::Display for Fault {
         f.write_str(match self {
             Fault::Io => "the disk failed",
             Fault::Damaged => "the file is damaged",
-            Fault::Full => "the disk or the file is full",
             Fault::Shut => "an earlier failure shut the file",
             Fault::TooLong => "the blob is too long",
-            Fault::PlaceTaken => "another key has this one's place",
+            Fault::ReadOnly => "the file is open for looking alone",
         })
     }
 }

@@ -1,130 +1,123 @@
 //! A storage of blobs in a file.
 
+ghost use Rattle.blob_file.specs.{
+  Appending.MayWrite,
+  File.{IsSettled, Same, SameBlobs, SameNames, content, content_of, flushed, found_body, held_blobs, named, stored},
+  Format.recovered,
+  Opening.{KeepsBatches, KeepsBytesUnlessFailed, Refuses},
+};
 ghost use Rattle.pagable_core.specs.Data.{blob_of};
 ghost use Rattle.pagable_file.specs.{
-  Blobs.{AreKeyed, HasBlob, RefusesFound, RefusesHeld, RefusesOtherKey, RefusesRead, Settled, blob_pending},
-  Blobs.{is_honest_view, roots_unless, roots_with, settled_prop, stored_with, unless},
-  Rows.{blob_tree, blobs_in, root_tree, roots_in},
+  Bodies.{CanBeKey, RefusesOther, RefusesRead, blob_if_some, blobs_of, body_of, roots_unless, unless},
+  Settled.{is_honest_file, settled_prop},
 };
 ghost use Rattle.pagable_value_spec.specs.{Blob.key_of, Stored.IsMemoryOrFailure};
-ghost use Rattle.sqlite.specs.Held.{state};
-ghost use Rattle.sqlite_trees.specs.{Tree.Trees, View.IsClean};
+ghost use Rattle.sqlite_wal.specs.Reads.{IsClean, OnlyReads};
 ghost use Rattle.std.specs.{
   Arc.arc_value,
-  Prelude.{IfErr, IfOk, IsTrue, OnErr, OnOk, Some, false, is_some, length, [], ◌≡◌, ◌≤◌, ◌⊎◌},
+  List.AllByRecursion,
+  Map.update,
+  Prelude.{IfErr, IfOk, IsTrue, List, MatchResult, OnErr, OnOk, Some, false, if◌then◌else◌, is_some, nat_eq, not, ℕ},
+  Prelude.{◌&&◌, ◌↔◌, ◌≡◌, ◌≤◌, ◌⊎◌},
 };
 
+use crate::bodies::{read_blob, write_body};
 use crate::fault::Fault;
-use crate::lookup::read;
-use crate::name_lock::NameLock;
-use crate::naming::has_blob;
-use crate::open_error::OpenError;
-use crate::pending::{PendingBlob, WaitingBlobs, WaitingRoots, add_waiting, is_same, waiting_at};
-use crate::rows::Reading;
-use crate::saving::save;
-use crate::stats::{Stats, count_failure, count_store_error};
-use crate::tables::prepare_tables;
+use crate::stats::{Stats, count_failure, count_fetch, count_file_error};
+use blob_file::file::{BlobFile, FoundBlob};
+use blob_file::file_error::FileError;
 use futures::task::{Context, Poll};
 use pagable_codec::Env;
 use pagable_core::{PagableData, PagableStorage};
 use pagable_flavors::{DataKey, Error};
-use sqlite::{Connection, File, FileStore, MemStore};
-use sqlite_trees::store::{Alter, Store};
-use sqlite_value::row::Row;
+use sqlite_disk::Disk;
 use std::alloc::Global;
-use std::collections::BTreeMap;
 use std::marker::PhantomData;
 use std::sync::Arc;
 
-/// A storage of blobs with names of roots, over a database of two tables, in a file or in memory.
-/// It holds new blobs and names back in memory until a flush commits them all at once.
+/// A storage of blobs over one file that only grows. It holds new blobs back in memory until a
+/// flush writes them all at once. One that was opened for looking alone takes no new blob and sets no
+/// name.
 #[derive(Drop)]
-pub struct FileBlobs<E: Env, S: Store> {
-    pub(crate) store: S,
-    pub(crate) waiting: WaitingBlobs,
-    pub(crate) waiting_roots: WaitingRoots,
-    pub(crate) row: Row,
-    bytes: Vec<u8>,
+pub struct FileBlobs<E: Env, D: Disk + Drop> {
+    pub(crate) file: BlobFile<D>,
     pub(crate) closed: bool,
     pub(crate) stats: Stats,
+    alloc: Global,
     environment: PhantomData<E>,
-    ghost settled: { Settled (S.view store) } by { settled_prop (S.view store) },
-    ghost named: { AreKeyed (key_of E.Hash.digest) waiting },
+    ghost settled: { IsSettled D.Disk file } by { settled_prop D.Disk file },
 }
 
-impl<E: Env> FileBlobs<E, FileStore<File>> {
-    /// Opens the file at a path, or creates it. A new file ends each page with a checksum of its
-    /// bytes, so that damage is noticed.
+impl<E: Env, D: Disk + Drop> FileBlobs<E, D> {
+    /// Opens the blobs of a file, or makes one of a file that was never made. What it finds is on
+    /// the disk.
     ///
     /// # Errors
     ///
-    /// - the causes in [`OpenError`]: a file that isn't opened stays as it is.
-    pub fn open(rt: &HostRuntime, path: &str) -> Result<FileBlobs<E, FileStore<File>>, OpenError> {
-        let name = NameLock::take(rt, path)?;
-        FileBlobs::open_under(rt, &name)
-    }
-
-    /// Opens the file whose name is locked, as `open` does, and no other program does so before the
-    /// lock is dropped.
-    ///
-    /// # Errors
-    ///
-    /// - as `open`.
-    pub fn open_under(
-        rt: &HostRuntime,
-        name: &NameLock,
-    ) -> Result<FileBlobs<E, FileStore<File>>, OpenError> {
-        let conn = Connection::open_with_sums(rt, name.path())?;
-        FileBlobs::over(rt.alloc(), conn)
-    }
-}
-
-impl<E: Env> FileBlobs<E, MemStore> {
-    /// Creates a storage in memory, without blobs and names.
-    ///
-    /// # Errors
-    ///
-    /// - `OutOfMemory`.
-    pub fn in_memory(alloc: Global) -> Result<FileBlobs<E, MemStore>, OpenError> {
-        let conn = Connection::open_in_memory(alloc)?;
-        FileBlobs::over(alloc, conn)
-    }
-}
-
-impl<E: Env, S: Alter + Drop> FileBlobs<E, S> {
-    /// Opens the blobs of a database, or creates the two tables if it has none.
-    ///
-    /// # Errors
-    ///
-    /// - the causes in [`OpenError`]: nothing is changed.
-    #[tactic(auto, using(crate::proofs::Fetching::none_keyed))]
-    pub fn over(alloc: Global, conn: Connection<S>) -> Result<FileBlobs<E, S>, OpenError>
+    /// With the disk back: `OutOfMemory`, `NotBlobs` and `Damaged` leave each byte as it was, and
+    /// `Failed` leaves a file that stands for the same blobs.
+    pub fn over(alloc: Global, disk: D) -> Result<FileBlobs<E, D>, (FileError, D)>
+        requires usable { IsTrue (D.Disk.is_usable disk) }
         ensures open { IfOk result (λ blobs. blobs.closed ≡ false) }
-        ensures clean { IfOk result (λ blobs. IsTrue (is_honest_view (S.Store.view blobs.store))
-            → IsClean (S.Store.view conn.store)) }
-        ensures nothing_waits { IfOk result (λ blobs. (blobs.waiting.entries ≡ [])
-            × (blobs.waiting_roots.entries ≡ [])) }
-        ensures blobs { IfOk result (λ blobs. IsTrue (is_honest_view (S.Store.view blobs.store))
-            → (S.Store.view blobs.store).committed blob_tree ≡ (state S.Store conn).committed.trees blob_tree) }
-        ensures roots { IfOk result (λ blobs. IsTrue (is_honest_view (S.Store.view blobs.store))
-            → (S.Store.view blobs.store).committed root_tree ≡ (state S.Store conn).committed.trees root_tree) }
+        ensures found { IfOk result (λ blobs. IsClean D.Disk blobs.file.log.disk
+            → Same (content_of (recovered (D.Disk.seen disk))) (content D.Disk blobs.file)) }
+        ensures whole { IfOk result (λ blobs. MayWrite blobs.file.log) }
+        ensures moment { IfOk result (λ blobs. KeepsBatches D.Disk disk blobs.file.log.disk) }
+        ensures moment_err { IfErr result (λ e. KeepsBatches D.Disk disk e.1) }
+        ensures refused { IfErr result (λ e. Refuses (IsClean D.Disk e.1) (D.Disk.seen disk) (D.Disk.faults disk) (D.Disk.faults e.1) e.0) }
+        ensures kept { IfErr result (λ e. KeepsBytesUnlessFailed D.Disk disk e.1 e.0) }
     {
-        let mut store = conn.into_store();
-        prepare_tables(alloc, &mut store)?;
-        Ok(FileBlobs {
-            store,
-            waiting: BTreeMap::new(alloc),
-            waiting_roots: BTreeMap::new(alloc),
-            row: Row::new(alloc),
-            bytes: Vec::new(alloc),
+        match BlobFile::open(alloc, disk) {
+            Ok(file) => Ok(FileBlobs::of_file(alloc, file)),
+            Err(refused) => Err(refused),
+        }
+    }
+
+    /// Opens the blobs of a file for looking alone: no byte is written then or later. The file may
+    /// never have been made, or end in the middle of a flush, which doesn't count.
+    ///
+    /// # Errors
+    ///
+    /// With the disk back: `OutOfMemory`, `NotBlobs`, `Damaged` or `Failed`.
+    pub fn look(alloc: Global, disk: D) -> Result<FileBlobs<E, D>, (FileError, D)>
+        requires usable { IsTrue (D.Disk.is_usable disk) }
+        ensures open { IfOk result (λ blobs. blobs.closed ≡ false) }
+        ensures found { IfOk result (λ blobs. IsClean D.Disk blobs.file.log.disk
+            → Same (content_of (recovered (D.Disk.seen disk))) (content D.Disk blobs.file)) }
+        ensures whole { IfOk result (λ blobs. IsTrue blobs.file.log.is_whole × (blobs.file.log.may_write ≡ false)) }
+        ensures refused { IfErr result (λ e. Refuses (IsClean D.Disk e.1) (D.Disk.seen disk) (D.Disk.faults disk)
+            (D.Disk.faults e.1) e.0) }
+        ensures same { MatchResult result (λ blobs. OnlyReads D.Disk disk blobs.file.log.disk)
+            (λ e. OnlyReads D.Disk disk e.1) }
+    {
+        match BlobFile::look(alloc, disk) {
+            Ok(file) => Ok(FileBlobs::of_file(alloc, file)),
+            Err(refused) => Err(refused),
+        }
+    }
+
+    /// Makes a storage over an open file.
+    fn of_file(alloc: Global, file: BlobFile<D>) -> FileBlobs<E, D>
+        requires settled { IsSettled D.Disk file }
+        ensures file { result.file ≡ file }
+        ensures open { result.closed ≡ false }
+    {
+        FileBlobs {
+            file,
             closed: false,
             stats: Stats::NONE,
+            alloc,
             environment: PhantomData,
-        })
+        }
     }
-}
 
-impl<E: Env, S: Store> FileBlobs<E, S> {
+    /// Returns the disk, and drops what waits for a flush.
+    pub fn into_disk(self) -> D
+        ensures { result ≡ self.file.log.disk }
+    {
+        self.file.log.disk
+    }
+
     /// Returns what was asked of the storage since it was opened.
     pub fn stats(&self) -> Stats
         ensures { result ≡ self.now.stats }
@@ -132,128 +125,78 @@ impl<E: Env, S: Store> FileBlobs<E, S> {
         self.stats
     }
 
-    /// Returns whether a blob is stored under a key. It reads the blob, but doesn't compute its key
-    /// again.
+    /// Has all blobs that were stored and all names that were set since the last commit on the disk,
+    /// or none of them.
     ///
     /// # Errors
     ///
-    /// - `OutOfMemory`.
-    /// - `Storage` only if the call raised the count of failures.
-    #[tactic(auto, using(crate::proofs::Named::roots_named))]
-    pub fn contains(&mut self, alloc: Global, key: DataKey) -> Result<bool, Error>
-        ensures ok { IsTrue (is_honest_view (S.view self.new.store))
-            → IfOk result (λ there. there ≡ is_some (unless self.old.closed
-            (stored_with self.old.waiting ((S.view self.old.store).committed blob_tree)) key)) }
-        ensures same { IsTrue (is_honest_view (S.view self.new.store)) → (S.view self.new.store).committed
-            ≡ (S.view self.old.store).committed }
-        ensures waits { (self.new.waiting ≡ self.old.waiting) × (self.new.waiting_roots ≡ self.old.waiting_roots) }
-        ensures sure { IsTrue (is_honest_view (S.view self.new.store))
-            → IsTrue (is_honest_view (S.view self.old.store)) }
-        ensures only { IfErr result (IsMemoryOrFailure self.old.stats.failures self.new.stats.failures) }
-        ensures failures_never_fall { self.old.stats.failures ≤ self.new.stats.failures }
-        ensures open { self.new.closed ≡ self.old.closed }
-    {
-        if self.closed {
-            return Ok(false);
-        }
-        let there = has_blob(
-            alloc,
-            &mut self.store,
-            &mut self.row,
-            &self.waiting,
-            &mut self.stats,
-            key,
-        )?;
-        Ok(there)
-    }
-
-    /// Returns how many blobs wait for a flush.
-    pub fn pending(&self) -> usize
-        ensures { result ≡ length self.now.waiting.entries }
-    {
-        self.waiting.len()
-    }
-
-    /// Commits all blobs that were stored and all names that were set since the last commit, or
-    /// none of them.
-    ///
-    /// # Errors
-    ///
-    /// All of them then wait as before.
+    /// All of them then wait as before. The file goes on if nothing but a write failed, and else it is
+    /// shut until it is opened anew.
     ///
     /// - `OutOfMemory`.
     /// - `Storage` only if the call raised the count of failures.
-    #[tactic(auto, using(crate::proofs::Committing::committing, crate::proofs::Fetching::none_keyed))]
     pub fn commit(&mut self) -> Result<(), Error>
-        ensures blobs { IsTrue (is_honest_view (S.view self.new.store))
-            → OnOk result (blobs_in ((S.view self.new.store).committed blob_tree)
-            ≡ stored_with self.old.waiting ((S.view self.old.store).committed blob_tree)) }
-        ensures roots { IsTrue (is_honest_view (S.view self.new.store))
-            → OnOk result (roots_in ((S.view self.new.store).committed root_tree)
-            ≡ roots_with self.old.waiting_roots ((S.view self.old.store).committed root_tree)) }
-        ensures stored { IsTrue (is_honest_view (S.view self.new.store))
-            → stored_with self.new.waiting ((S.view self.new.store).committed blob_tree)
-            ≡ stored_with self.old.waiting ((S.view self.old.store).committed blob_tree) }
-        ensures roots_stay { IsTrue (is_honest_view (S.view self.new.store))
-            → roots_with self.new.waiting_roots ((S.view self.new.store).committed root_tree)
-            ≡ roots_with self.old.waiting_roots ((S.view self.old.store).committed root_tree) }
-        ensures nothing_waits { OnOk result ((self.new.waiting.entries ≡ []) × (self.new.waiting_roots.entries ≡ [])) }
-        ensures kept { IsTrue (is_honest_view (S.view self.new.store)) → OnErr result
-            ((S.view self.new.store).committed ≡ (S.view self.old.store).committed) }
-        ensures sure { IsTrue (is_honest_view (S.view self.new.store))
-            → IsTrue (is_honest_view (S.view self.old.store)) }
+        ensures flushed { IsTrue (is_honest_file D.Disk self.new.file)
+            → OnOk result (Same (content D.Disk self.old.file) (flushed D.Disk self.new.file)) }
+        ensures same { IsTrue (is_honest_file D.Disk self.new.file)
+            → Same (content D.Disk self.old.file) (content D.Disk self.new.file) }
+        // A crash in it or after it leaves what was flushed before, or that and all that waited.
+        ensures any_moment { MayWrite self.old.file.log → IsClean D.Disk self.new.file.log.disk → (c : List ℕ)
+            → D.Disk.may_leave self.new.file.log.disk c
+            → Same (flushed D.Disk self.old.file) (content_of (recovered c))
+            ⊎ Same (content D.Disk self.old.file) (content_of (recovered c)) }
+        ensures kept { IsTrue (is_honest_file D.Disk self.new.file)
+            → OnErr result (Same (flushed D.Disk self.old.file) (flushed D.Disk self.new.file)) }
+        ensures whole { OnOk result (IsTrue self.old.file.log.is_whole → IsTrue self.new.file.log.is_whole) }
+        ensures sure { IsTrue (is_honest_file D.Disk self.new.file) → IsTrue (is_honest_file D.Disk self.old.file) }
         ensures only { IfErr result (IsMemoryOrFailure self.old.stats.failures self.new.stats.failures) }
         ensures failures_never_fall { self.old.stats.failures ≤ self.new.stats.failures }
         ensures open { self.new.closed ≡ self.old.closed }
-        // A crash leaves all that waited, blobs and names, or what a crash before the call could leave.
-        ensures crash { IsTrue (is_honest_view (S.view self.old.store)) → IsClean (S.view self.new.store) → (db : Trees)
-            → S.recovers self.new.store db
-            → (blobs_in (db blob_tree) ≡ stored_with self.old.waiting ((S.view self.old.store).committed blob_tree))
-            × (roots_in (db root_tree) ≡ roots_with self.old.waiting_roots
-            ((S.view self.old.store).committed root_tree))
-            ⊎ S.recovers self.old.store db }
     {
-        match save(
-            &mut self.store,
-            &mut self.row,
-            &mut self.bytes,
-            &self.waiting,
-            &self.waiting_roots,
-        ) {
+        match self.file.flush(self.alloc) {
             Ok(()) => {
-                self.waiting.clear();
-                self.waiting_roots.clear();
                 self.stats.flushes = self.stats.flushes.saturating_add(1);
                 Ok(())
             }
-            Err(error) => Err(count_store_error(&mut self.stats, error)),
+            Err(error) => Err(count_file_error(&mut self.stats, error)),
         }
     }
 
-    /// Returns the database, and drops what waits for a flush.
-    pub fn into_store(self) -> S
-        ensures { result ≡ self.store }
+    /// Returns how many blobs wait for a flush, by a walk over all blobs in memory.
+    pub fn pending(&self) -> usize
+        ensures { result ≡ (if self.now.closed then 0 else held_blobs self.now.file) }
     {
-        self.store
+        if self.closed {
+            return 0;
+        }
+        self.file.count_held()
+    }
+
+    /// Returns whether a blob is stored under a key, without a call of the disk. It doesn't test the
+    /// blob's key.
+    pub fn contains(&self, key: DataKey) -> bool
+        ensures { result ≡ (not self.now.closed && is_some (stored D.Disk self.now.file key)) }
+    {
+        !self.closed && self.file.find(key.get()).is_some()
     }
 }
 
-impl<E: Env, S: Store> PagableStorage<E> for FileBlobs<E, S> {
-    ghost stored = { λ s. unless s.closed (stored_with s.waiting ((S.view s.store).committed blob_tree)) };
+impl<E: Env, D: Disk + Drop> PagableStorage<E> for FileBlobs<E, D> {
+    ghost stored = { λ s. unless s.closed (blobs_of (stored D.Disk s.file)) };
 
-    ghost flushed = { λ s. unless s.closed (blobs_in ((S.view s.store).committed blob_tree)) };
+    ghost flushed = { λ s. unless s.closed (blobs_of (flushed D.Disk s.file).blob) };
 
     ghost is_closed = { λ s. s.closed };
 
-    ghost is_honest = { λ s. is_honest_view (S.view s.store) };
+    ghost is_honest = { λ s. is_honest_file D.Disk s.file };
 
     ghost failed = { λ s. s.stats.failures };
 
-    ghost roots = { λ s. roots_unless s.closed (roots_with s.waiting_roots ((S.view s.store).committed root_tree)) };
+    ghost roots = { λ s. roots_unless s.closed (named s.file) };
 
-    ghost roots_flushed = { λ s. roots_unless s.closed (roots_in ((S.view s.store).committed root_tree)) };
+    ghost roots_flushed = { λ s. roots_unless s.closed (flushed D.Disk s.file).key };
 
-    #[tactic(auto, using(crate::proofs::Fetching::fetching, crate::proofs::Named::names_kept))]
+    #[tactic(auto, using(crate::proofs::Stored::fetching))]
     fn fetch_data_blocking(
         &mut self,
         alloc: Global,
@@ -262,13 +205,10 @@ impl<E: Env, S: Store> PagableStorage<E> for FileBlobs<E, S> {
         if self.closed {
             return Err(Error::NoData(key));
         }
-        if let Some(held) = waiting_at(&self.waiting, key) {
-            let blob = held_blob(held, key)?;
-            return Ok(blob);
-        }
-        match read(alloc, &mut self.store, &mut self.row, key) {
-            Ok(found) => test_fetched::<E>(alloc, &mut self.stats, key, found),
-            Err(error) => Err(count_store_error(&mut self.stats, error)),
+        match self.file.fetch(alloc, key.get()) {
+            Ok(Some(found)) => test_fetched::<E>(alloc, &mut self.stats, key, &found),
+            Ok(None) => Err(Error::NoData(key)),
+            Err(error) => Err(count_file_error(&mut self.stats, error)),
         }
     }
 
@@ -281,31 +221,26 @@ impl<E: Env, S: Store> PagableStorage<E> for FileBlobs<E, S> {
         Poll::Ready(self.fetch_data_blocking(alloc, key))
     }
 
-    #[tactic(auto, using(crate::proofs::Fetching::storing, crate::proofs::Named::names_kept))]
+    #[tactic(auto, using(crate::proofs::Stored::storing))]
     fn store_data(&mut self, alloc: Global, blob: PagableData) -> Result<DataKey, Error> {
         if self.closed {
             return Err(Error::Closed);
         }
         let key = blob.compute_key::<E::Hash>();
-        if let Some(held) = waiting_at(&self.waiting, key) {
-            test_held(&mut self.stats, held, key, &blob)?;
-            return Ok(key);
-        }
-        match read(alloc, &mut self.store, &mut self.row, key) {
-            Ok(None) => {}
+        match self.file.fetch(alloc, key.get()) {
             Ok(Some(found)) => {
-                test_found(&mut self.stats, &found, &blob)?;
-                return Ok(key);
+                test_same(alloc, &mut self.stats, &found, &blob)?;
+                Ok(key)
             }
-            Err(error) => return Err(count_store_error(&mut self.stats, error)),
+            Ok(None) => {
+                add_blob(alloc, &mut self.file, &mut self.stats, key, &blob)?;
+                Ok(key)
+            }
+            Err(error) => Err(count_file_error(&mut self.stats, error)),
         }
-        let blob = Arc::new(alloc, blob)?;
-        add_waiting(&mut self.waiting, key, blob)?;
-        self.stats.stores = self.stats.stores.saturating_add(1);
-        Ok(key)
     }
 
-    #[tactic(auto, using(crate::proofs::Named::flushing))]
+    #[tactic(auto, using(crate::proofs::Stored::flushing))]
     fn flush(&mut self) -> Result<(), Error> {
         if self.closed {
             return Ok(());
@@ -313,10 +248,7 @@ impl<E: Env, S: Store> PagableStorage<E> for FileBlobs<E, S> {
         self.commit()
     }
 
-    #[tactic(auto, using(crate::proofs::Fetching::none_keyed))]
     fn close(&mut self) {
-        self.waiting.clear();
-        self.waiting_roots.clear();
         self.closed = true;
     }
 
@@ -329,93 +261,88 @@ impl<E: Env, S: Store> PagableStorage<E> for FileBlobs<E, S> {
     }
 }
 
-/// Returns one more `Arc` of the blob in `held`, the entry that waits for a flush at the rowid of
-/// `key`. Fails with `NoData` if the entry is another key's, and with `OutOfMemory` if the blob
-/// can't be shared once more.
-fn held_blob(held: &PendingBlob, key: DataKey) -> Result<Arc<PagableData>, Error>
-    ensures ok { IfOk result (λ blob. (blob_of (arc_value blob) ≡ blob_pending held.now) × (held.now.key ≡ key)) }
-    ensures only { IfErr result (RefusesOtherKey held.now.key key) }
-{
-    if held.key != key {
-        return Err(Error::NoData(key));
-    }
-    Ok(held.blob.clone()?)
-}
-
-/// Returns the blob in `found`, which was read at the rowid of `key`, in a new `Arc`, and counts
-/// the fetch. Fails with `NoData` if there was no row or another key's, with `Storage` if the row
-/// is damaged or its blob has another key, and with `OutOfMemory`.
+/// Returns the blob whose body was found under `key` in a new `Arc`, and counts the fetch. Fails
+/// with `Storage` if the body is damaged or its blob has another key, and with `OutOfMemory`.
 fn test_fetched<E: Env>(
     alloc: Global,
     stats: &mut Stats,
     key: DataKey,
-    found: Option<Reading>,
+    found: &FoundBlob,
 ) -> Result<Arc<PagableData>, Error>
-    ensures ok { IfOk result (λ blob. HasBlob found (blob_of (arc_value blob))) }
+    ensures ok { IfOk result (λ blob. blob_if_some (found_body (Some found.now)) ≡ Some (blob_of (arc_value blob))) }
     ensures named { IfOk result (λ blob. key_of E.Hash.digest (blob_of (arc_value blob)) ≡ key) }
-    ensures only { IfErr result (RefusesRead found key stats.old.failures stats.new.failures) }
+    ensures only { IfErr result (RefusesRead stats.old.failures stats.new.failures) }
     ensures failures_never_fall { stats.old.failures ≤ stats.new.failures }
 {
-    match found {
-        None | Some(Reading::Other) => Err(Error::NoData(key)),
-        Some(Reading::Damaged) => Err(count_failure(stats, Fault::Damaged)),
-        Some(Reading::Blob(blob)) => {
-            if blob.compute_key::<E::Hash>() != key {
-                return Err(count_failure(stats, Fault::Damaged));
-            }
-            count_fetch(stats, blob.bytes.len());
-            Ok(Arc::new(alloc, blob)?)
-        }
+    let Some(blob) = read_blob(alloc, found)? else {
+        return Err(count_failure(stats, Fault::Damaged));
+    };
+    if blob.compute_key::<E::Hash>() != key {
+        return Err(count_failure(stats, Fault::Damaged));
     }
+    count_fetch(stats, blob.bytes.len());
+    Ok(Arc::new(alloc, blob)?)
 }
 
-/// Counts a fetch of a blob with this many bytes.
-fn count_fetch(stats: &mut Stats, bytes: usize)
-    ensures { stats.new.failures ≡ stats.old.failures }
-{
-    stats.fetches = stats.fetches.saturating_add(1);
-    stats.fetched_bytes = stats.fetched_bytes.saturating_add(bytes as u64);
-}
-
-/// Tests that `held`, the entry that waits for a flush at the rowid of `key`, has this key and
-/// `blob`. Fails with `Storage` if the entry is another key's, and with `KeyTaken` if it has this
-/// key and another blob.
-fn test_held(
+/// Tests that the blob whose body was found is `blob`, and counts it as stored already. Fails with
+/// `KeyTaken` if it is another, with `Storage` if the body is damaged, and with `OutOfMemory`.
+fn test_same(
+    alloc: Global,
     stats: &mut Stats,
-    held: &PendingBlob,
-    key: DataKey,
+    found: &FoundBlob,
     blob: &PagableData,
 ) -> Result<(), Error>
-    ensures ok { OnOk result ((held.now.key ≡ key) × (blob_pending held.now ≡ blob_of blob.now)) }
-    ensures only { IfErr result (RefusesHeld held.now key (blob_of blob.now) stats.old.failures stats.new.failures) }
+    ensures ok { OnOk result (blob_if_some (found_body (Some found.now)) ≡ Some (blob_of blob.now)) }
+    ensures only { IfErr result (RefusesOther (blob_if_some (found_body (Some found.now))) (blob_of blob.now)
+        stats.old.failures stats.new.failures) }
     ensures failures_never_fall { stats.old.failures ≤ stats.new.failures }
 {
-    if held.key != key {
-        return Err(count_failure(stats, Fault::PlaceTaken));
-    }
-    if !is_same(&held.blob, blob) {
+    let Some(there) = read_blob(alloc, found)? else {
+        return Err(count_failure(stats, Fault::Damaged));
+    };
+    if !is_same(&there, blob) {
         return Err(Error::KeyTaken);
     }
     stats.already_stored = stats.already_stored.saturating_add(1);
     Ok(())
 }
 
-/// Tests that `found`, the row that was read at a key's rowid, has `blob`. Fails with `Storage` if
-/// the row is another key's or damaged, and with `KeyTaken` if it has another blob.
-fn test_found(stats: &mut Stats, found: &Reading, blob: &PagableData) -> Result<(), Error>
-    ensures ok { OnOk result (HasBlob (Some found.now) (blob_of blob.now)) }
-    ensures only { IfErr result (RefusesFound found.now (blob_of blob.now) stats.old.failures stats.new.failures) }
+/// Returns whether two blobs have the same bytes and the same child keys.
+fn is_same(one: &PagableData, other: &PagableData) -> bool
+    ensures { IsTrue result ↔ (blob_of one.now ≡ blob_of other.now) }
+{
+    one == other
+}
+
+/// Holds a blob under its key until the next flush, and counts it as new. Fails with `OutOfMemory`,
+/// and with `Storage` if it is too long or the file is shut.
+fn add_blob<D: Disk + Drop>(
+    alloc: Global,
+    file: &mut BlobFile<D>,
+    stats: &mut Stats,
+    key: DataKey,
+    blob: &PagableData,
+) -> Result<(), Error>
+    requires settled { IsSettled D.Disk file.old }
+    ensures settled { IsSettled D.Disk file.new }
+    ensures added { OnOk result (IsClean D.Disk file.new.log.disk → (q : _) → stored D.Disk file.new q
+        ≡ update nat_eq (stored D.Disk file.old) key (Some (body_of (blob_of blob.now))) q) }
+    ensures fit { OnOk result (AllByRecursion CanBeKey (blob_of blob.now).keys) }
+    ensures kept { OnErr result (SameBlobs (stored D.Disk file.old) (stored D.Disk file.new)) }
+    ensures names { SameNames (named file.old) (named file.new) }
+    ensures log { file.new.log ≡ file.old.log }
+    ensures only { IfErr result (RefusesRead stats.old.failures stats.new.failures) }
     ensures failures_never_fall { stats.old.failures ≤ stats.new.failures }
 {
-    match found {
-        Reading::Other => Err(count_failure(stats, Fault::PlaceTaken)),
-        Reading::Damaged => Err(count_failure(stats, Fault::Damaged)),
-        Reading::Blob(there) => {
-            if !is_same(there, blob) {
-                return Err(Error::KeyTaken);
-            }
-            stats.already_stored = stats.already_stored.saturating_add(1);
+    let Ok(children) = u32::try_from(blob.arcs.len()) else {
+        return Err(count_failure(stats, Fault::TooLong));
+    };
+    let body = write_body(alloc, blob)?;
+    match file.add(key.get(), children, body.as_slice()) {
+        Ok(()) => {
+            stats.stores = stats.stores.saturating_add(1);
             Ok(())
         }
+        Err(error) => Err(count_file_error(stats, error)),
     }
 }

@@ -1,133 +1,90 @@
 //! The check of a whole file of blobs.
 
+ghost use Rattle.blob_file.specs.{File.{IsSettled, found_body, named, stored}, Rows.Body};
 ghost use Rattle.pagable_core.specs.Data.{blob_of};
 ghost use Rattle.pagable_file.specs.{
-  Blobs.{LeavesCommitted, Settled, is_honest_view},
-  Flaws.{AddsFlawsUnless, IsChild, IsFlaw, IsNameAt, IsSoundAt, IsSoundBlob, IsSoundBlobRow, IsSoundRootRow, IsThere},
-  Flaws.{IsWhole, Tested, blob_at, keyed},
-  Rows.{blob_tree, blobs_in, root_tree, row_at},
+  Bodies.{blob_if_some, blobs_of},
+  Flaws.{AddsFlawsUnless, IsChild, IsFlaw, IsSoundAt, IsSoundName, IsStray, IsThere, IsWhole, Stays},
+  Settled.is_honest_file,
 };
 ghost use Rattle.pagable_value_spec.specs.{Blob.{Blob, key_of}, Stored.IsMemoryOrFailure};
-ghost use Rattle.sqlite_value.specs.Order.{Row as SqlRow};
+ghost use Rattle.sqlite_wal.specs.Reads.{IsClean};
 ghost use Rattle.std.specs.{
   List.{AllByRecursion, Contains},
-  Prelude.{IfErr, IfOk, IsTrue, List, None, OnOk, Some, option_map, ℕ, ℤ, [], ◌↔◌, ◌≡◌, ◌≤◌},
+  Prelude.{IfErr, IfNone, IfOk, IfSome, IsTrue, List, None, OnOk, Option, Some, false, ℕ, [], ◌↔◌, ◌≡◌, ◌≢◌, ◌≤◌},
 };
 
+use crate::bodies::read_blob;
 use crate::file_blobs::FileBlobs;
-use crate::lookup::{read, read_row_at};
-use crate::naming::is_blob;
-use crate::rows::{Reading, key_at, read_blob, rowid_of, rowid_of_name};
-use crate::scan::all_places;
-use crate::stats::count_store_error;
-use crate::tables::{BLOBS, ROOTS};
+use crate::stats::count_file_error;
 use crate::watch::Watch;
+use blob_file::file::{BlobFile, FoundBlob};
+use blob_file::file_error::FileError;
 use pagable_codec::{Env, KeyHash};
 use pagable_core::PagableData;
 use pagable_flavors::{DataKey, Error};
-use sqlite_trees::error::StoreError;
-use sqlite_trees::sound::bytes_of;
-use sqlite_trees::store::Store;
-use sqlite_value::row::Row;
+use sqlite_disk::Disk;
 use std::alloc::{AllocError, Global};
 
 /// A flaw of a file of blobs.
 #[derive(Debug, PartialEq, Drop)]
 pub enum Flaw {
-    /// The row with this rowid in the table of blobs has no key, a key of another rowid, or child
-    /// keys that aren't keys, so no fetch returns it.
-    StrayBlob(i64),
+    /// The body under this number is no blob's, so no fetch returns one: the number is 0, or the front
+    /// of the body isn't a list of keys.
+    StrayBlob(u128),
     /// The blob under this key has another key.
     WrongKey(DataKey),
     /// The first key's blob refers to the second key, under which no blob is stored.
     MissingChild(DataKey, DataKey),
-    /// The row with this rowid in the table of roots has a name that isn't UTF-8 or has another
-    /// rowid, so no look-up finds it.
-    StrayRoot(i64),
     /// The name stands for the key, under which no blob is stored.
     MissingRoot(String, DataKey),
 }
 
-/// Reads the key and the blob of `row`, whose rowid is `place`. Returns None if the row has no key,
-/// a key of another rowid, or child keys that aren't keys.
-#[tactic(auto, unfolding(crate::specs::Flaws::blob_at, crate::specs::Rows::blob_in))]
-fn read_at(
-    alloc: Global,
-    row: &Row,
-    place: i64,
-) -> Result<Option<(DataKey, PagableData)>, AllocError>
-    ensures { IfOk result (λ it. option_map (λ found. keyed found.0 (blob_of found.1)) it ≡ blob_at place row.now) }
-{
-    let Some(key) = key_at(row, 2) else {
-        return Ok(None);
-    };
-    if rowid_of(key) != place {
-        return Ok(None);
-    }
-    match read_blob(alloc, row, key)? {
-        Reading::Blob(blob) => Ok(Some((key, blob))),
-        Reading::Other | Reading::Damaged => Ok(None),
-    }
-}
-
-/// Adds `flaw` if the table has no blob under `key`.
-#[tactic(auto, using(crate::proofs::Flawed::testing))]
-fn test_there<S: Store>(
-    alloc: Global,
-    store: &mut S,
-    row: &mut Row,
+/// Adds `flaw` if no blob is stored under `key`.
+fn test_there<D: Disk>(
+    file: &BlobFile<D>,
     flaws: &mut Vec<Flaw>,
     key: DataKey,
     flaw: Flaw,
-) -> Result<(), StoreError>
-    requires settled { Settled (S.view store.old) }
-    ensures tested { (of : Blob → ℕ) → (blobs_in ((S.view store.old).committed blob_tree) key ≡ None
-        → IsFlaw of ((S.view store.old).committed blob_tree) ((S.view store.old).committed root_tree) flaw)
-        → Tested of (S.view store.old) (S.view store.new) result flaws.old.items flaws.new.items
-        (IsThere ((S.view store.old).committed blob_tree) key) }
-    ensures stays { LeavesCommitted (S.view store.old) (S.view store.new) }
+) -> Result<(), FileError>
+    ensures tested { (of : Blob → ℕ) (names : List ℕ → Option ℕ)
+        → (stored D.Disk file.now key ≡ None → IsFlaw of (stored D.Disk file.now) names flaw)
+        → OnOk result (AddsFlawsUnless (IsFlaw of (stored D.Disk file.now) names) flaws.old.items flaws.new.items
+        (IsThere (stored D.Disk file.now) key)) }
 {
-    let found = read(alloc, store, row, key)?;
-    if is_blob(&found) {
+    if file.find(key.get()).is_some() {
         return Ok(());
     }
     flaws.push(flaw)?;
     Ok(())
 }
 
-/// Adds a flaw for each of `children`, the children of the blob under `key`, that the table lacks.
-#[tactic(auto, using(crate::proofs::Flawed::looping))]
-fn test_children<S: Store>(
-    alloc: Global,
-    store: &mut S,
-    row: &mut Row,
+/// Adds a flaw for each of `children`, the children of the blob under `key`, that isn't stored.
+fn test_children<D: Disk>(
+    file: &BlobFile<D>,
     flaws: &mut Vec<Flaw>,
     key: DataKey,
     children: &[DataKey],
-) -> Result<(), StoreError>
-    requires settled { Settled (S.view store.old) }
-    ensures tested { (of : Blob → ℕ) → ((child : ℕ) → Contains children.now child
-        → IsChild ((S.view store.old).committed blob_tree) key child)
-        → Tested of (S.view store.old) (S.view store.new) result flaws.old.items flaws.new.items
-        (AllByRecursion (IsThere ((S.view store.old).committed blob_tree)) children.now) }
-    ensures stays { LeavesCommitted (S.view store.old) (S.view store.new) }
+) -> Result<(), FileError>
+    ensures tested { (of : Blob → ℕ) (names : List ℕ → Option ℕ)
+        → ((child : ℕ) → Contains children.now child → IsChild (stored D.Disk file.now) key child)
+        → OnOk result (AddsFlawsUnless (IsFlaw of (stored D.Disk file.now) names) flaws.old.items flaws.new.items
+        (AllByRecursion (IsThere (stored D.Disk file.now)) children.now)) }
 {
     for child in children {
-        let flaw = Flaw::MissingChild(key, *child);
-        test_there(alloc, store, row, flaws, *child, flaw)?;
+        test_there(file, flaws, *child, Flaw::MissingChild(key, *child))?;
     }
     Ok(())
 }
 
 /// Adds a flaw if the key computed from `blob` isn't `key`.
-#[tactic(auto, using(crate::proofs::Flawed::testing))]
 fn test_key<H: KeyHash>(
     flaws: &mut Vec<Flaw>,
     key: DataKey,
     blob: &PagableData,
-) -> Result<(), StoreError>
-    ensures { (rows roots : List SqlRow) → blobs_in rows key ≡ Some (blob_of blob.now)
-        → OnOk result (AddsFlawsUnless (IsFlaw (key_of H.digest) rows roots) flaws.old.items flaws.new.items
+) -> Result<(), FileError>
+    ensures tested { (bodies : ℕ → Option Body) (names : List ℕ → Option ℕ) → blobs_of bodies key ≡ Some (blob_of blob.now)
+        → OnOk result (AddsFlawsUnless (IsFlaw (key_of H.digest) bodies names) flaws.old.items flaws.new.items
         (key_of H.digest (blob_of blob.now) ≡ key)) }
 {
     if blob.compute_key::<H>() == key {
@@ -137,174 +94,153 @@ fn test_key<H: KeyHash>(
     Ok(())
 }
 
-/// Tests that the blob under `key` has this key, and that a blob is stored under each key that it
-/// refers to. Adds a flaw for each of these that isn't so.
-#[tactic(auto, using(crate::proofs::Flawed::testing))]
-fn test_blob<H: KeyHash, S: Store>(
+/// Returns the key that this number is, and the blob whose body was found there. Returns None if
+/// the number is 0 or the body is no blob's.
+fn keyed_blob(
     alloc: Global,
-    store: &mut S,
-    row: &mut Row,
-    flaws: &mut Vec<Flaw>,
-    key: DataKey,
-    blob: &PagableData,
-) -> Result<(), StoreError>
-    requires settled { Settled (S.view store.old) }
-    ensures tested { blobs_in ((S.view store.old).committed blob_tree) key ≡ Some (blob_of blob.now)
-        → Tested (key_of H.digest) (S.view store.old) (S.view store.new) result flaws.old.items flaws.new.items
-        (IsSoundBlob (key_of H.digest) ((S.view store.old).committed blob_tree) key (blob_of blob.now)) }
-    ensures stays { LeavesCommitted (S.view store.old) (S.view store.new) }
+    number: u128,
+    found: &FoundBlob,
+) -> Result<Option<(DataKey, PagableData)>, AllocError>
+    ensures blob { IfOk result (λ it. IfSome it (λ blob. (blob.0 ≡ number) × (number ≢ 0)
+        × (blob_if_some (found_body (Some found.now)) ≡ Some (blob_of blob.1)))) }
+    ensures stray { IfOk result (λ it. IfNone it (IsStray number
+        (record { children = found.now.children; bytes = found.now.body.items }))) }
 {
-    test_key::<H>(flaws, key, blob)?;
-    test_children(alloc, store, row, flaws, key, blob.arcs.as_slice())?;
-    Ok(())
+    let Some(key) = DataKey::new(number) else {
+        return Ok(None);
+    };
+    match read_blob(alloc, found)? {
+        Some(blob) => Ok(Some((key, blob))),
+        None => Ok(None),
+    }
 }
 
-/// Tests `row`, which stands at `place` in the table of blobs, and adds its flaws.
-#[tactic(auto, using(crate::proofs::Flawed::testing))]
-fn test_blob_row<H: KeyHash, S: Store>(
+/// Tests the body that was found under a number, and adds its flaws.
+fn test_body<H: KeyHash, D: Disk>(
     alloc: Global,
-    store: &mut S,
-    row: &mut Row,
+    file: &BlobFile<D>,
     flaws: &mut Vec<Flaw>,
-    place: i64,
-) -> Result<(), StoreError>
-    requires settled { Settled (S.view store.old) }
-    ensures tested { row_at ((S.view store.old).committed blob_tree) place ≡ Some row.old
-        → Tested (key_of H.digest) (S.view store.old) (S.view store.new) result flaws.old.items flaws.new.items
-        (IsSoundBlobRow (key_of H.digest) ((S.view store.old).committed blob_tree) place row.old) }
-    ensures stays { LeavesCommitted (S.view store.old) (S.view store.new) }
+    number: u128,
+    found: &FoundBlob,
+) -> Result<(), FileError>
+    ensures tested { (names : List ℕ → Option ℕ) → stored D.Disk file.now number ≡ found_body (Some found.now)
+        → OnOk result (AddsFlawsUnless (IsFlaw (key_of H.digest) (stored D.Disk file.now) names) flaws.old.items
+        flaws.new.items (IsSoundAt (key_of H.digest) (stored D.Disk file.now) number)) }
 {
-    match read_at(alloc, row, place)? {
-        Some(found) => {
-            test_blob::<H, S>(alloc, store, row, flaws, found.0, &found.1)?;
-            Ok(())
+    match keyed_blob(alloc, number, found)? {
+        Some((key, blob)) => {
+            test_key::<H>(flaws, key, &blob)?;
+            test_children(file, flaws, key, blob.arcs.as_slice())
         }
         None => {
-            flaws.push(Flaw::StrayBlob(place))?;
+            flaws.push(Flaw::StrayBlob(number))?;
             Ok(())
         }
     }
 }
 
-/// Reads the name in `row`, a root's row whose rowid is `place`. Returns None if the name isn't
-/// UTF-8, or has another rowid.
-fn read_name_at(alloc: Global, row: &Row, place: i64) -> Result<Option<String>, AllocError>
-    ensures { IfOk result (IsNameAt place row.now) }
+/// Fetches what stands under a number, tests it, and adds its flaws.
+fn test_blob<H: KeyHash, D: Disk, W: Watch>(
+    alloc: Global,
+    file: &mut BlobFile<D>,
+    flaws: &mut Vec<Flaw>,
+    watch: &mut W,
+    number: u128,
+) -> Result<(), FileError>
+    requires settled { IsSettled D.Disk file.old }
+    ensures settled { IsSettled D.Disk file.new }
+    ensures stays { Stays D.Disk file.old file.new }
+    ensures tested { (names : List ℕ → Option ℕ) → IsClean D.Disk file.new.log.disk
+        → OnOk result (AddsFlawsUnless (IsFlaw (key_of H.digest) (stored D.Disk file.old) names) flaws.old.items
+        flaws.new.items (IsSoundAt (key_of H.digest) (stored D.Disk file.old) number)) }
 {
-    let Ok(name) = str::from_utf8(bytes_of(row.get(2))) else {
-        return Ok(None);
-    };
-    if rowid_of_name(name) != place {
-        return Ok(None);
+    watch.note();
+    match file.fetch(alloc, number)? {
+        Some(found) => test_body::<H, D>(alloc, file, flaws, number, &found),
+        None => Ok(()),
     }
-    let name = String::from_str(alloc, name)?;
-    Ok(Some(name))
 }
 
-/// Tests `row`, which stands at `place` in the table of roots, and adds its flaw.
-#[tactic(auto, using(crate::proofs::Flawed::testing))]
-fn test_root_row<S: Store>(
+/// Tests what stands under each number, and adds the flaws.
+fn test_blobs<H: KeyHash, D: Disk, W: Watch>(
     alloc: Global,
-    store: &mut S,
-    row: &mut Row,
+    file: &mut BlobFile<D>,
     flaws: &mut Vec<Flaw>,
-    place: i64,
-) -> Result<(), StoreError>
-    requires settled { Settled (S.view store.old) }
-    ensures tested { (of : Blob → ℕ) → row_at ((S.view store.old).committed root_tree) place ≡ Some row.old
-        → Tested of (S.view store.old) (S.view store.new) result flaws.old.items flaws.new.items
-        (IsSoundRootRow ((S.view store.old).committed blob_tree) place row.old) }
-    ensures stays { LeavesCommitted (S.view store.old) (S.view store.new) }
+    watch: &mut W,
+) -> Result<(), FileError>
+    requires settled { IsSettled D.Disk file.old }
+    ensures settled { IsSettled D.Disk file.new }
+    ensures stays { Stays D.Disk file.old file.new }
+    ensures tested { (names : List ℕ → Option ℕ) → IsTrue (is_honest_file D.Disk file.new)
+        → OnOk result (AddsFlawsUnless (IsFlaw (key_of H.digest) (stored D.Disk file.old) names) flaws.old.items
+        flaws.new.items ((key : ℕ) → IsSoundAt (key_of H.digest) (stored D.Disk file.old) key)) }
 {
-    let Some(name) = read_name_at(alloc, row, place)? else {
-        flaws.push(Flaw::StrayRoot(place))?;
-        return Ok(());
-    };
-    let Some(key) = key_at(row, 3) else {
-        return Ok(());
-    };
-    test_there(alloc, store, row, flaws, key, Flaw::MissingRoot(name, key))?;
+    let entries = file.list(alloc)?;
+    for entry in &entries {
+        test_blob::<H, D, W>(alloc, file, flaws, watch, entry.key)?;
+    }
     Ok(())
 }
 
-/// Tests the row at a place of one of the two tables, and adds its flaws.
-#[tactic(auto, using(crate::proofs::Flawed::testing))]
-fn test_place<H: KeyHash, S: Store, W: Watch>(
+/// Adds a flaw if the blob of the key that a name stands for isn't stored.
+fn test_name<D: Disk>(
     alloc: Global,
-    store: &mut S,
-    row: &mut Row,
+    file: &BlobFile<D>,
     flaws: &mut Vec<Flaw>,
-    watch: &mut W,
-    table: u32,
-    place: i64,
-) -> Result<(), StoreError>
-    requires settled { Settled (S.view store.old) }
-    requires table { table ≤ root_tree }
-    ensures tested { Tested (key_of H.digest) (S.view store.old) (S.view store.new) result
-        flaws.old.items flaws.new.items (IsSoundAt (key_of H.digest) (S.view store.old).committed table place) }
-    ensures stays { LeavesCommitted (S.view store.old) (S.view store.new) }
+    name: &str,
+) -> Result<(), FileError>
+    ensures tested { (of : Blob → ℕ) → OnOk result (AddsFlawsUnless (IsFlaw of (stored D.Disk file.now) (named file.now))
+        flaws.old.items flaws.new.items (IsSoundName (stored D.Disk file.now) (named file.now) name.now)) }
 {
-    if !read_row_at(store, table, place, row)? {
+    let Some(number) = file.root(name) else {
         return Ok(());
-    }
-    if table == BLOBS {
-        watch.note();
-        test_blob_row::<H, S>(alloc, store, row, flaws, place)?;
-        return Ok(());
-    }
-    test_root_row(alloc, store, row, flaws, place)?;
-    Ok(())
+    };
+    let Some(key) = DataKey::new(number) else {
+        return Err(FileError::Damaged);
+    };
+    let flaw = Flaw::MissingRoot(String::from_str(alloc, name)?, key);
+    test_there(file, flaws, key, flaw)
 }
 
-/// Tests all rows of one of the two tables, and adds their flaws.
-#[tactic(auto, using(crate::proofs::Flawed::looping))]
-fn test_table<H: KeyHash, S: Store, W: Watch>(
+/// Tests each name, and adds the flaws.
+fn test_names<D: Disk>(
     alloc: Global,
-    store: &mut S,
-    row: &mut Row,
+    file: &BlobFile<D>,
     flaws: &mut Vec<Flaw>,
-    watch: &mut W,
-    table: u32,
-) -> Result<(), StoreError>
-    requires settled { Settled (S.view store.old) }
-    requires table { table ≤ root_tree }
-    ensures tested { Tested (key_of H.digest) (S.view store.old) (S.view store.new) result
+) -> Result<(), FileError>
+    ensures tested { (of : Blob → ℕ) → OnOk result (AddsFlawsUnless (IsFlaw of (stored D.Disk file.now) (named file.now))
         flaws.old.items flaws.new.items
-        ((place : ℤ) → IsSoundAt (key_of H.digest) (S.view store.old).committed table place) }
-    ensures stays { LeavesCommitted (S.view store.old) (S.view store.new) }
+        ((name : List ℕ) → IsSoundName (stored D.Disk file.now) (named file.now) name)) }
 {
-    let places = all_places(alloc, store, row, table)?;
-    for place in &places {
-        test_place::<H, S, W>(alloc, store, row, flaws, watch, table, *place)?;
+    let names = file.root_names(alloc)?;
+    for name in &names {
+        test_name(alloc, file, flaws, name.as_str())?;
     }
     Ok(())
 }
 
-/// Finds all flaws of the two tables.
-#[tactic(auto, using(crate::proofs::Flawed::looping))]
-fn find_flaws<H: KeyHash, S: Store, W: Watch>(
+/// Finds all flaws of a file.
+fn find_flaws<H: KeyHash, D: Disk, W: Watch>(
     alloc: Global,
-    store: &mut S,
-    row: &mut Row,
+    file: &mut BlobFile<D>,
     watch: &mut W,
-) -> Result<Vec<Flaw>, StoreError>
-    requires settled { Settled (S.view store.old) }
-    ensures tested { IsTrue (is_honest_view (S.view store.new)) → IfOk result
-        (λ flaws. AddsFlawsUnless (IsFlaw (key_of H.digest) ((S.view store.old).committed blob_tree)
-        ((S.view store.old).committed root_tree)) [] flaws.items
-        (IsWhole (key_of H.digest) ((S.view store.old).committed blob_tree)
-        ((S.view store.old).committed root_tree))) }
-    ensures stays { LeavesCommitted (S.view store.old) (S.view store.new) }
+) -> Result<Vec<Flaw>, FileError>
+    requires settled { IsSettled D.Disk file.old }
+    ensures settled { IsSettled D.Disk file.new }
+    ensures stays { Stays D.Disk file.old file.new }
+    ensures tested { IsTrue (is_honest_file D.Disk file.new) → IfOk result (λ flaws. AddsFlawsUnless
+        (IsFlaw (key_of H.digest) (stored D.Disk file.old) (named file.old)) [] flaws.items
+        (IsWhole (key_of H.digest) (stored D.Disk file.old) (named file.old))) }
 {
     let mut flaws = Vec::new(alloc);
-    test_table::<H, S, W>(alloc, store, row, &mut flaws, watch, BLOBS)?;
-    test_table::<H, S, W>(alloc, store, row, &mut flaws, watch, ROOTS)?;
+    test_blobs::<H, D, W>(alloc, file, &mut flaws, watch)?;
+    test_names(alloc, file, &mut flaws)?;
     Ok(flaws)
 }
 
-impl<E: Env, S: Store> FileBlobs<E, S> {
-    /// Finds all flaws of the file: reads each row, computes the key of each blob again, and looks
-    /// for each child key and each root's key. What waits for a flush isn't checked.
+impl<E: Env, D: Disk + Drop> FileBlobs<E, D> {
+    /// Finds all flaws of what the file has, flushed or waiting for a flush: reads each blob, computes
+    /// its key again, and looks for each child and for each name's blob. A closed storage has none.
     ///
     /// # Errors
     ///
@@ -314,25 +250,23 @@ impl<E: Env, S: Store> FileBlobs<E, S> {
     /// - `Storage` only if the call raised the count of failures.
     #[tactic(auto, using(crate::proofs::Flawed::all_real))]
     pub fn fsck<W: Watch>(&mut self, alloc: Global, watch: &mut W) -> Result<Vec<Flaw>, Error>
-        ensures exact { IsTrue (is_honest_view (S.view self.new.store))
+        ensures exact { self.old.closed ≡ false → IsTrue (is_honest_file D.Disk self.new.file)
             → IfOk result (λ flaws. (flaws.items ≡ [])
-            ↔ IsWhole (key_of E.Hash.digest) ((S.view self.old.store).committed blob_tree)
-            ((S.view self.old.store).committed root_tree)) }
-        ensures real { IsTrue (is_honest_view (S.view self.new.store))
-            → IfOk result (λ flaws. AllByRecursion (IsFlaw (key_of E.Hash.digest)
-            ((S.view self.old.store).committed blob_tree) ((S.view self.old.store).committed root_tree)) flaws.items) }
-        ensures same { IsTrue (is_honest_view (S.view self.new.store)) → (S.view self.new.store).committed
-            ≡ (S.view self.old.store).committed }
-        ensures waits { (self.new.waiting ≡ self.old.waiting) × (self.new.waiting_roots ≡ self.old.waiting_roots) }
-        ensures sure { IsTrue (is_honest_view (S.view self.new.store))
-            → IsTrue (is_honest_view (S.view self.old.store)) }
+            ↔ IsWhole (key_of E.Hash.digest) (stored D.Disk self.old.file) (named self.old.file)) }
+        ensures real { IsTrue (is_honest_file D.Disk self.new.file)
+            → IfOk result (λ flaws. AllByRecursion (IsFlaw (key_of E.Hash.digest) (stored D.Disk self.old.file)
+            (named self.old.file)) flaws.items) }
+        ensures stays { Stays D.Disk self.old.file self.new.file }
         ensures only { IfErr result (IsMemoryOrFailure self.old.stats.failures self.new.stats.failures) }
         ensures failures_never_fall { self.old.stats.failures ≤ self.new.stats.failures }
         ensures open { self.new.closed ≡ self.old.closed }
     {
-        match find_flaws::<E::Hash, S, W>(alloc, &mut self.store, &mut self.row, watch) {
+        if self.closed {
+            return Ok(Vec::new(alloc));
+        }
+        match find_flaws::<E::Hash, D, W>(alloc, &mut self.file, watch) {
             Ok(flaws) => Ok(flaws),
-            Err(error) => Err(count_store_error(&mut self.stats, error)),
+            Err(error) => Err(count_file_error(&mut self.stats, error)),
         }
     }
 }

@@ -1,31 +1,22 @@
-//! A durable storage for a pager: blobs and names of roots in a file that SQLite reads, or in
-//! memory.
+//! A durable storage for a pager: blobs in one file that only grows.
 //!
-//! The file has two tables, `blobs` and `roots`, written by the toolchain's `sqlite`. The storage
-//! holds new blobs and names back in memory until `flush` writes them all in one transaction.
+//! Below it `blob_file` keeps the file over any `Disk` of `sqlite_disk`; this crate says what a
+//! blob's body is there, tests the key of each blob that it fetches, and counts what was asked.
 #![tactic(auto)]
 
 pub mod blob_env;
+pub mod bodies;
 pub mod copy;
 pub mod fault;
 pub mod file_blobs;
 pub mod fsck;
 pub mod laws;
 pub mod listing;
-mod lookup;
-pub mod name_lock;
-pub mod named_again;
-mod naming;
+pub mod looking;
 pub mod open_error;
-pub mod pending;
-pub mod reopening;
-mod root_list;
+pub mod opening;
 mod roots;
-pub mod rows;
-mod saving;
-mod scan;
 pub mod stats;
-pub mod tables;
 pub mod watch;
 
 pub use blob_env::BlobEnv;
@@ -33,8 +24,11 @@ pub use fault::Fault;
 pub use file_blobs::FileBlobs;
 pub use fsck::Flaw;
 pub use listing::ListedBlob;
-pub use name_lock::NameLock;
 pub use open_error::OpenError;
+pub use opening::FileOfBlobs;
 pub use pagable_core::Roots;
 pub use stats::Stats;
 pub use watch::Watch;
+
+#[cfg(test)]
+mod tests;

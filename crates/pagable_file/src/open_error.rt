@@ -1,8 +1,7 @@
 //! The causes for which a file of blobs isn't opened.
 
-use sqlite::{Error as SqlError, ErrorCode};
-use sqlite_trees::error::StoreError;
-use std::alloc::{AllocError, AllocFailed};
+use blob_file::file_error::FileError;
+use blob_host::OpenError as HostError;
 use std::fmt;
 
 /// The cause for which a file of blobs isn't opened.
@@ -10,71 +9,73 @@ use std::fmt;
 pub enum OpenError {
     /// Out of memory.
     OutOfMemory,
-    /// Another handle has the file open.
+    /// Another handle has the file open for writing.
     InUse,
-    /// The file can't be opened, for example because a folder or a permission is missing.
-    CannotOpen,
-    /// The file isn't a file of blobs: it is no database, or one with other tables.
+    /// The path names a folder, a pipe, a device or a socket.
+    NotAFile,
+    /// This process may not write the file, or make it in its folder.
+    MayNotWrite,
+    /// This process may not read the file.
+    MayNotRead,
+    /// Nothing has the path's name.
+    Missing,
+    /// The path's folder is missing, or is none.
+    FolderMissing,
+    /// The path named another file each time it was opened.
+    Replaced,
+    /// The file has bytes, and they aren't those of a file of blobs.
     NotBlobs,
-    /// A later version of this crate wrote the file. The number is the file's version.
-    Newer(u32),
-    /// The disk failed.
-    Io,
     /// The file is damaged.
     Damaged,
-    /// The disk is full.
-    Full,
+    /// The disk failed.
+    Io,
 }
 
-impl From<SqlError> for OpenError {
-    fn from(error: SqlError) -> OpenError {
+impl From<HostError> for OpenError {
+    fn from(error: HostError) -> OpenError {
         match error {
-            SqlError::SqliteFailure(ErrorCode::OutOfMemory) => OpenError::OutOfMemory,
-            SqlError::SqliteFailure(ErrorCode::DatabaseBusy) => OpenError::InUse,
-            SqlError::SqliteFailure(ErrorCode::NotADatabase) => OpenError::NotBlobs,
-            SqlError::SqliteFailure(ErrorCode::SystemIoFailure) => OpenError::Io,
-            SqlError::SqliteFailure(ErrorCode::DatabaseCorrupt) => OpenError::Damaged,
-            SqlError::SqliteFailure(ErrorCode::DiskFull) => OpenError::Full,
-            _ => OpenError::CannotOpen,
+            HostError::InUse => OpenError::InUse,
+            HostError::NotAFile => OpenError::NotAFile,
+            HostError::MayNotWrite => OpenError::MayNotWrite,
+            HostError::MayNotRead => OpenError::MayNotRead,
+            HostError::Missing => OpenError::Missing,
+            HostError::FolderMissing => OpenError::FolderMissing,
+            HostError::Replaced => OpenError::Replaced,
+            HostError::Failed(_) => OpenError::Io,
         }
     }
 }
 
-impl From<StoreError> for OpenError {
-    fn from(error: StoreError) -> OpenError {
+impl From<FileError> for OpenError {
+    fn from(error: FileError) -> OpenError {
         match error {
-            StoreError::OutOfMemory => OpenError::OutOfMemory,
-            StoreError::Corrupt => OpenError::Damaged,
-            StoreError::Full => OpenError::Full,
-            _ => OpenError::Io,
+            FileError::OutOfMemory => OpenError::OutOfMemory,
+            FileError::NotBlobs => OpenError::NotBlobs,
+            FileError::Damaged => OpenError::Damaged,
+            FileError::Failed
+            | FileError::NoSuchBlob
+            | FileError::ReadOnly
+            | FileError::Shut
+            | FileError::TooLong => OpenError::Io,
         }
-    }
-}
-
-impl From<AllocError> for OpenError {
-    fn from(_: AllocError) -> OpenError {
-        OpenError::OutOfMemory
-    }
-}
-
-impl<T: Drop> From<AllocFailed<T>> for OpenError {
-    fn from(_: AllocFailed<T>) -> OpenError {
-        OpenError::OutOfMemory
     }
 }
 
 impl fmt::Display for OpenError {
     fn fmt<W: fmt::Write>(&self, f: &mut fmt::Formatter<W>) -> fmt::Result {
-        match self {
-            OpenError::OutOfMemory => f.write_str("out of memory"),
-            OpenError::InUse => f.write_str("the file is in use"),
-            OpenError::CannotOpen => f.write_str("the file cannot be opened"),
-            OpenError::NotBlobs => f.write_str("the file is none of blobs"),
-            OpenError::Newer(version) => write!(f, "the file has the newer version {version}"),
-            OpenError::Io => f.write_str("the disk failed"),
-            OpenError::Damaged => f.write_str("the file is damaged"),
-            OpenError::Full => f.write_str("the disk is full"),
-        }
+        f.write_str(match self {
+            OpenError::OutOfMemory => "out of memory",
+            OpenError::InUse => "the file is in use",
+            OpenError::NotAFile => "the path names no regular file",
+            OpenError::MayNotWrite => "the file may not be written",
+            OpenError::MayNotRead => "the file may not be read",
+            OpenError::Missing => "there is no such file",
+            OpenError::FolderMissing => "there is no such folder",
+            OpenError::Replaced => "the path names another file each time",
+            OpenError::NotBlobs => "the file is none of blobs",
+            OpenError::Damaged => "the file is damaged",
+            OpenError::Io => "the disk failed",
+        })
     }
 }
 

@@ -9,7 +9,6 @@ use pagable_core::Roots;
 use pagable_file::{FileBlobs, OpenError};
 use pagable_nodes::Records;
 use pagable_value_spec::HandleNumber;
-use sqlite::{File, FileStore};
 use std::alloc::Global;
 
 /// The work that a program does in a run, with its records. A run takes the job, so no job runs twice.
@@ -49,23 +48,9 @@ pub fn run_over<J: Job + Drop, S: Roots<Records> + Drop>(
     job.run(&mut store, last)
 }
 
-/// A storage in a file that its program closes.
-trait CloseFile {
-    /// Closes the file, with its log copied into it.
-    fn close_file(self, alloc: Global) -> Result<(), OpenError>;
-}
-
-impl CloseFile for FileBlobs<Records, FileStore<File>> {
-    fn close_file(self, alloc: Global) -> Result<(), OpenError> {
-        self.close_files(alloc)?;
-        Ok(())
-    }
-}
-
-// Runs a job over the records of a storage that was opened at a path, or fails as the opening did, and
-// closes the storage. It takes one of any type, so that the checker needn't follow how a file of blobs is
-// dropped.
-fn run_over_opened<J: Job + Drop, S: Roots<Records> + CloseFile + Drop>(
+// Runs a job over the records of a storage that was opened at a path, or fails as the opening did. It
+// takes one of any type, so that the checker needn't follow how a file of blobs is dropped.
+fn run_over_opened<J: Job + Drop, S: Roots<Records> + Drop>(
     alloc: Global,
     path: &str,
     storage: Result<S, OpenError>,
@@ -74,19 +59,15 @@ fn run_over_opened<J: Job + Drop, S: Roots<Records> + CloseFile + Drop>(
     ensures { OnOk result (J.succeeds job) }
 {
     let storage = storage.context(format_args!("opening {path}"))?;
-    let (mut store, last) = RecordStore::open(alloc, storage, J::ROOT, J::KEPT_RECORDS)?;
-    let done = job.run(&mut store, last);
-    let closed = store.into_storage().close_file(alloc);
-    done?;
-    Ok(closed.context(format_args!("closing {path}"))?)
+    run_over(alloc, storage, job)
 }
 
-/// Runs a job over the records of a file, which it creates if there is none, and closes the file: then it
-/// holds all that was saved, without its log. It succeeds only if the job's run did.
+/// Runs a job over the records of a file, which it makes if there is none, and lets the file go. All
+/// that was saved is in it. It succeeds only if the job's run did.
 ///
 /// # Errors
 ///
-/// - as `FileBlobs::open` and `close_files`, with the path, and as `run_over`.
+/// - as `FileBlobs::open`, with the path, and as `run_over`.
 pub fn run_over_file<J: Job + Drop>(rt: &HostRuntime, path: &str, job: J) -> Result<()>
     ensures { OnOk result (J.succeeds job) }
 {

@@ -7,6 +7,7 @@ use Rattle.blob_file.specs.Format.{recovered}
 use Rattle.blob_file.specs.Rows.{AreWhole, nowhere, place_at, placed, blobs_in, named_in, names_in, told, places_in, row_bytes, row_of, size_of_row}
 use Rattle.blob_file.specs.declared.rows.Place.{Place}
 use Rattle.blob_file.specs.declared.rows.Row.{Row}
+use Rattle.blob_file.proofs.Looks.{all_batches}
 use Rattle.blob_file.proofs.Placing.{all_here}
 use Rattle.blob_file.proofs.Reopens.{on_err_any}
 use Rattle.blob_file.proofs.Settling.{added_names, added_places, added_rows, added_stored, body_of, row_back}
@@ -22,14 +23,13 @@ returns-clause-added g c clean q =
     let place : c.in-Some-next_place.place ≡ place_at (it.log.gate + 25 + length it.bodies.items) r = c.in-Some-next_place.ensures.1
     ∙ ap₂ (λ (k : ℕ) (x : Row). place_at (it.log.gate + 25 + k) x) held is in
     let size : size_of_row r ≡ length c.args.body.now = omega (arith, c.requires.children) in
-    let rests = (s.open_log.ready c.if-not-self.false clean).rests in
     let updates : (k : ℕ) → get nat_eq c.hold.new.places k ≡ update nat_eq (get nat_eq it.index.places) r.key
     (Some (place_at (it.log.gate + 25 + length it.bodies.items) r)) k =
     λ k. c.in_ok-hold.ensures.places k ∙ ap₂ (λ (x : Row) (p : Place). update nat_eq (get nat_eq it.index.places) x.key (Some p) k) is place in
     ap (λ (b : List ℕ). option_map (body_of (body_bytes (g.D.Disk.seen it.log.disk) b (it.log.gate + 25)))
     (get nat_eq c.hold.new.places q)) c.in_ok-hold.ensures.bodies
     ∙ added_stored (g.D.Disk.seen it.log.disk) it.bodies.items c.args.body.now it.log.gate r (get nat_eq it.index.places) (get nat_eq c.hold.new.places)
-    (λ k p found. all_here _ _ _ _ rests.place rests.whole (s.open_log.formed c.if-not-self.false clean) s.held k p
+    (λ k p found. all_here _ _ _ _ (s.open_log.place c.if-not-self.false clean) (all_batches (g.D.Disk.seen it.log.disk)) (s.open_log.formed c.if-not-self.false clean) s.held k p
     (sym (s.places c.if-not-self.false clean k) ∙ found)) size updates q
 
 pub returns-clause-settled : goal.returns-clause-settled

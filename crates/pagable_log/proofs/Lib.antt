@@ -1,3 +1,0 @@
-mod Keys
-mod Naming
-mod Stored

@@ -1,3 +1,0 @@
-pub mod Bodies
-pub mod Laws
-pub mod Settled

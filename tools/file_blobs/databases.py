@@ -1,0 +1,111 @@
+"""Tries `export-db` and `import-old` of `blobctl` against SQLite: what is exported is read by it, and databases that it
+makes are imported, in this project's earlier form too."""
+import sqlite3
+import subprocess
+
+from asking import chain, key_of, removed, run, seen
+
+# The tables of the earlier form: a row stands at 63 bits of its key.
+OLD = """CREATE TABLE blobs (place INTEGER PRIMARY KEY, key BLOB NOT NULL, bytes BLOB NOT NULL, children BLOB NOT NULL)
+STRICT; CREATE TABLE roots (place INTEGER PRIMARY KEY, name TEXT NOT NULL, key BLOB NOT NULL) STRICT;
+PRAGMA user_version = 1"""
+FIRST = key_of(b"first")
+SECOND = key_of(b"second", [FIRST, FIRST])
+# The rows of blobs and of roots; the last name stands for none any more.
+BLOBS = [(FIRST, b"first", ""), (SECOND, b"second", FIRST * 2), (key_of(b""), b"", "")]
+ROOTS = [("main", SECOND), ("a\nb", FIRST), ("gone", "")]
+
+
+def old_database(file, blobs, roots, tables=OLD):
+    """Makes a database with these rows."""
+    with sqlite3.connect(removed(file)) as made:
+        made.executescript(tables)
+        for place, (key, data, children) in enumerate(blobs):
+            row = (place, bytes.fromhex(key), data, bytes.fromhex(children))
+            made.execute("INSERT INTO blobs (place, key, bytes, children) VALUES (?, ?, ?, ?)", row)
+        for place, (name, key) in enumerate(roots):
+            made.execute("INSERT INTO roots (place, name, key) VALUES (?, ?, ?)", (place, name, bytes.fromhex(key)))
+    made.close()
+    return file
+
+
+def imported(program, old, file):
+    """What is said of an import, and what it leaves."""
+    done = subprocess.run([program, "import-old", old, file], capture_output=True, text=True, check=False, timeout=100)
+    left = sorted(it.name for it in file.parent.iterdir() if it.name.startswith((old.name, file.name)))
+    return done, left
+
+
+def imports(program, folder):
+    """Imports databases that SQLite made."""
+    folder = folder / "imports"
+    folder.mkdir()
+    old, file = folder / "old.db", folder / "new.blobs"
+    before = old_database(old, BLOBS, ROOTS).read_bytes()
+    done, left = imported(program, old, file)
+    if (done.stdout, left) != ("3 blobs, 2 names imported\n", ["new.blobs", "old.db"]):
+        return f"import: {done.stdout}{done.stderr}, {left}"
+    wanted = sorted(f"{key} {len(data)} bytes, {len(keys) // 32} children" for key, data, keys in BLOBS)
+    listed, roots = run(program, file, "list").stdout.splitlines(), run(program, file, "roots").stdout.splitlines()
+    if sorted(listed) != wanted or sorted(roots) != sorted([rf"a\nb {FIRST}", f"main {SECOND}"]):
+        return f"import: {listed}, {roots}"
+    if run(program, file, "fsck").returncode or old.read_bytes() != before:
+        return "import: a flaw, or the database has changed"
+    return refused_imports(program, folder, old, file)
+
+
+def refused_imports(program, folder, old, taken):
+    """Imports that are refused: no file is left, and one that is there stays."""
+    file, other = folder / "other.blobs", folder / "other.db"
+    none, text = folder / "none.db", folder / "text"
+    text.write_bytes(b"no database" * 100)
+    content = taken.read_bytes()
+    odd = "a row of the database is no blob's or name's"
+    changed = {
+        "has another key": [[(SECOND, b"first", "")], []],
+        odd: [[(FIRST[:30], b"first", "")], []],
+        f"{odd}\n": [[(FIRST, b"first", "00" * 16)], []],
+        "no blob stands under": [BLOBS, [("main", "11" * 16)]],
+    }
+    for said, rows in changed.items():
+        done, left = imported(program, old_database(other, *rows), file)
+        if said not in done.stdout or done.returncode != 1 or left != ["other.db"]:
+            return f"import of {rows}: {done.stdout}{done.stderr}, {left}"
+    for source, to, said in (
+        (none, file, "there is no such file"),
+        (text, file, "the database: "),
+        (old_database(other, [], [], "CREATE TABLE blobs (key TEXT)"), file, "the database: "),
+        (old, taken, "is there already"),
+    ):
+        done, left = imported(program, source, to)
+        if said not in done.stdout or done.returncode != 1 or file.exists() or f"{source.name}-wal" in left:
+            return f"import of {source.name}: {done.stdout}{done.stderr}, {left}"
+    if taken.read_bytes() != content or none.exists():
+        return "import: a file that is there has changed, or one was made"
+    print(f"import-old: a database of the earlier form, and {len(changed) + 4} that are refused")
+    return None
+
+
+def exports(program, folder):
+    """Exports a file: SQLite's shell reads it, and what is imported of that shows the same."""
+    folder = folder / "exports"
+    folder.mkdir()
+    file, made, again = (folder / name for name in ("some.blobs", "some.db", "again.blobs"))
+    lines, roots = chain(2_500, 300, 500)
+    run(program, file, text=lines)
+    before, done = file.read_bytes(), run(program, file, "export-db", made)
+    if done.stdout != "2500 blobs, 1 names exported\n" or file.read_bytes() != before:
+        return f"export: {done.stdout}{done.stderr}"
+    asked = "PRAGMA integrity_check; SELECT count(*), sum(length(bytes)), sum(length(children)) FROM blobs;"
+    asked += "SELECT name, lower(hex(key)) FROM roots;"
+    said = subprocess.run(["sqlite3", made, asked], capture_output=True, text=True, check=False)
+    if said.stdout.splitlines() != ["ok", f"2500|{2500 * 300}|{2499 * 16}", f"last|{roots[-1]}"]:
+        return f"export: sqlite3 says {said.stdout}{said.stderr}"
+    taken = run(program, file, "export-db", made)
+    if "is there already" not in taken.stdout or taken.returncode != 1:
+        return f"export to a file that is there: {taken.stdout}"
+    done, left = imported(program, made, again)
+    if done.returncode or left != ["again.blobs", "some.db"] or seen(program, again) != seen(program, file):
+        return f"export: what is imported of it differs: {done.stdout}{done.stderr}, {left}"
+    print("export-db: SQLite's shell reads it and finds nothing wrong, and import-old reads the same back")
+    return None
