@@ -1,6 +1,6 @@
 #!/usr/bin/env python3
 """Prints, as file:line, each place where the libraries' text invents a want of memory, does more under the pager's lock
-than one call of it, or where README.md shows other code than the file has. The status is 1 if there is one.
+than one call of it, or where a page shows other code than the file has. The status is 1 if there is one.
 
 In the src/ of every crate one function alone writes `Error::OutOfMemory` as a value: it makes it of a growth
 that the allocator refused (crates/pagable_value_spec/src/error.rt). All others pass such an error on, so none says that
@@ -16,13 +16,17 @@ ask for the node of the handle that it got, or for the blob that the cache didn'
 there on, and hands the guard to nothing but that access: so meanwhile no value is decoded or written, nothing is waited
 for and no other lock is taken.
 
-If README.md shows a file (`This is`, its name, and the code), it shows that file without the comment at its head and
-its tests; if it shows what a program prints (`This is`, the name of its file `stdout`, and indented lines), it shows
-that file.
+If README.md or a page of docs shows a file (`This is`, its name, and the code), it shows that file without the comment
+at its head and its tests; if a part of a file (`From`, its name, and the code), these lines stand there one after the
+other, whatever they are indented by; if what a program prints (`This is`, the name of its file `stdout`, and indented
+lines), it shows that file. docs/INDEX.md is what tools/api_index.py prints.
 """
 import re
 import sys
 from pathlib import Path
+
+sys.dont_write_bytecode = True
+import api_index  # noqa: E402
 
 CRATES = Path(__file__).resolve().parent.parent / "crates"
 CONVERSION = "fn out_of_memory() -> Error"
@@ -78,8 +82,9 @@ OTHER_NAMES = {
     "pending_paging_count": {"pending"},
 }
 GUARD = re.compile(r"(?<![.\w])pager\b(?!\s*\.)")
-# A file that README.md shows, and what it shows.
+# A file that a page shows, and what it shows.
 SHOWN = re.compile(r"This is\s`((?:tools/)?crates/\S+\.(?:rt|rattle))`[^`]*\n\n```rust\n(.*?)```", re.S)
+PART = re.compile(r"From\s`((?:tools/)?crates/\S+\.(?:rt|rattle))`[^`]*\n\n```rust\n(.*?)```", re.S)
 PRINTED = re.compile(r"This is\s`(crates/\S+/stdout)`(?:.|\n(?!\n))*\n\n((?: {4}.*\n)+)")
 KEPT = re.compile(r"let (?:mut )?pager = |Lent::(?:new|for_owner)\(&mut \*pager\b")
 
@@ -154,20 +159,34 @@ def lengthy_locks():
     return found
 
 
+def unindented(text):
+    """The lines of a text, without what they are indented by and the empty ones."""
+    return "\n".join(line.strip() for line in text.splitlines() if line.strip())
+
+
+def is_stale(shown, top):
+    """Whether a page shows other code than the file that it names has, or another part than it has."""
+    text = (top / shown[1]).read_text(encoding="utf-8")
+    if shown.re is PART:
+        return f"\n{unindented(shown[2])}\n" not in f"\n{unindented(text)}\n"
+    if shown.re is PRINTED:
+        return re.sub(r"(?m)^ {4}", "", shown[2]) != text
+    code = "".join(line for line in text.splitlines(keepends=True) if not line.startswith("//!"))
+    return code.strip("\n") != shown[2].strip("\n")
+
+
 def stale_code():
-    """The places, as file and line, at which README.md shows other code than the file that it names has."""
-    readme = CRATES.parent / "README.md"
-    text = readme.read_text(encoding="utf-8")
+    """The places, as file and line, at which a page shows other code than the file that it names has, and where the
+    index isn't what its tool prints."""
+    top = CRATES.parent
     found = []
-    for shown in SHOWN.finditer(text):
-        lines = (CRATES.parent / shown[1]).read_text(encoding="utf-8").splitlines(keepends=True)
-        code = "".join(line for line in lines if not line.startswith("//!")).lstrip("\n")
-        if code.rstrip("\n") != shown[2].rstrip("\n"):
-            found.append((readme, text[: shown.start(2)].count("\n") + 1))
-    for shown in PRINTED.finditer(text):
-        if re.sub(r"(?m)^ {4}", "", shown[2]) != (CRATES.parent / shown[1]).read_text(encoding="utf-8"):
-            found.append((readme, text[: shown.start(2)].count("\n") + 1))
-    return found
+    for page in (top / "README.md", *sorted((top / "docs").glob("*.md"))):
+        text = page.read_text(encoding="utf-8")
+        shown = [it for kind in (SHOWN, PART, PRINTED) for it in kind.finditer(text) if is_stale(it, top)]
+        found += [(page, text[: it.start(2)].count("\n") + 1) for it in shown]
+    lines = zip((top / "docs" / "INDEX.md").read_text(encoding="utf-8").split("\n"), api_index.index(top).split("\n"))
+    other = [number for number, (line, wanted) in enumerate(lines, 1) if line != wanted]
+    return found + [(top / "docs" / "INDEX.md", number) for number in other[:1]]
 
 
 def without_patterns(code):

@@ -7,8 +7,10 @@ tries the tools on them.
     tools/fakes.py machine FAULT STORE LINES [PROGRAM]     # `heap_snapshot`
     tools/fakes.py blobs FAULT FILE [COMMAND..]            # `blobctl`
     tools/fakes.py hosted FAULT COMMAND PATH..             # the program of tools/host_files
+    tools/fakes.py remote FAULT FOLDER COMMAND WORD..      # `remote`
 """
 import fcntl
+import hashlib
 import os
 import pathlib
 import pickle
@@ -198,6 +200,33 @@ def hosted(fault, command, *paths):
             os.truncate(path, 1)
     sys.stdout.flush()
     sys.stdin.readline()
+    return 0
+
+
+def remote(fault, *words):
+    """Writes texts into a folder, or reads them from the last one on."""
+    if len(words) < 3 or words[1] not in ("put", "get"):
+        print("usage: remote FOLDER put TEXT.. | remote FOLDER get KEY", file=sys.stderr)
+        return 2
+    folder, command, *rest = pathlib.Path(words[0]), *words[1:]
+    if command == "put":
+        folder.mkdir(exist_ok=True)
+        files = models.texts_as_files(rest)
+        for name, content in files.items():
+            (folder / name).write_bytes(content)
+        print([*files][-1])
+        return 0
+    (key,) = rest
+    while key:
+        file = folder / key
+        content = file.read_bytes() if file.exists() else b""
+        is_whole = hashlib.sha256(content).hexdigest()[:32] == key or fault == "reads what was changed"
+        if not file.exists() or not is_whole:
+            print(f"the file {key} was changed" if file.exists() else f"no blob under the key {key}", file=sys.stderr)
+            return 1
+        end = len(content) - 16 * content[0]
+        print(key, content[10 : end - 1].decode(errors="replace"))
+        key = content[end:].hex()
     return 0
 
 

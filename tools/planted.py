@@ -131,21 +131,40 @@ LOCKS = [
 
 
 def check_text(work):
-    """A want of memory that is invented, two calls under the lock, a lock by another name, and README with other code
-    than the file's."""
+    """A want of memory that is invented, two calls under the lock, a lock by another name, pages with other code than
+    the file's, and an item that the index lacks."""
     leave = shutil.ignore_patterns("out", "proofs", "specs", "must-fail", "data")
     for folder in ("crates", "tools/crates"):
         shutil.copytree(TOP / folder, work / folder, ignore=leave)
-    for file in (HERE / "check_text.py", TOP / "README.md"):
+    (work / "docs").mkdir()
+    pages = [TOP / "README.md", TOP / "crates.txt", *(TOP / "docs").glob("*.md")]
+    for file in (HERE / "check_text.py", HERE / "api_index.py", *pages):
         shutil.copy(file, work / file.relative_to(TOP))
     yield "", ran(work / "tools" / "check_text.py")
     faults = [("crates/pagable_core/src/lib.rt", added) for added in MEMORY]
     faults += [("crates/pagable_locked/src/slot.rt", added) for added in [TWICE, *LOCKS]]
-    for file, added in [*faults, ("crates/demo/src/main.rt", "\n// Another line.\n")]:
+    faults = [(file, added, f"{file}:") for file, added in faults]
+    pages = {"quick/src/main": "README", "four_threads/src/main": "README", "remote/src/folder_blobs": "docs/GUIDE"}
+    faults += [(f"crates/{file}.rt", "\n// Another line.\n", f"{page}.md:") for file, page in pages.items()]
+    faults.append(("crates/pagable_core/src/lib.rt", "\n/// Does nothing.\npub fn nothing() {}\n", "docs/INDEX.md:"))
+    for file, added, said in faults:
         text = (work / file).read_text(encoding="utf-8")
         (work / file).write_text(text + added, encoding="utf-8")
-        yield "README.md:" if "demo" in file else f"{file}:", ran(work / "tools" / "check_text.py")
+        yield said, ran(work / "tools" / "check_text.py")
         (work / file).write_text(text, encoding="utf-8")
+    text = (work / "docs" / "MIGRATION.md").read_text(encoding="utf-8")
+    (work / "docs" / "MIGRATION.md").write_text(text.replace("pin_sync(", "pinned("), encoding="utf-8")
+    yield "docs/MIGRATION.md:", ran(work / "tools" / "check_text.py")
+
+
+def copies(work):
+    """Crates that are copied with what they stand on, once, and one that isn't there."""
+    copy = lambda *names: ran(HERE / "copy_crates.py", work, *names)
+    texts = lambda: (work / "crates.txt").read_text(encoding="utf-8").splitlines()
+    yield "copied 2 of 2 crates: pagable_value_spec pagable_flavors", copy("pagable_flavors")
+    yield "copied 1 of 3 crates: pagable_codec", copy("pagable_codec")
+    yield "", "" if len(texts()) == 3 else f"{texts()}"
+    yield "crates.txt has no crate sha2", copy("sha2")
 
 
 def edit(work, text):
@@ -610,8 +629,12 @@ def fuzzed(_):
 
 
 def programs(work):
-    """A machine that goes on at the line before."""
+    """A machine that goes on at the line before, and a file that is read although it was changed."""
     run = module_at("run_of_programs", HERE / "programs" / "run.py")
+    for fault, why in [("", ""), ("reads what was changed", "in place of")]:
+        folder = work / f"texts {fault}"
+        folder.mkdir()
+        yield why, told(run.remote, program(work, "remote", fault), folder)
     for fault, why in [("", ""), ("forgets a line", "in place of")]:
         folder = work / f"work {fault}"
         folder.mkdir()
@@ -707,14 +730,15 @@ def of_night(work):
 
 # What is tried on a tool: one after the other, words that have to be told of a fault, or none, and what is told.
 TOOLS = {
-    "check_text.py": check_text, "edits.py": edits_of_bodies, "wrong_bodies.py": bodies, "threads": threads,
-    "tests.py": of_tests, "plain_pager.py": pager, "plain_rows.py": pager_rows, "plain_values.py": values,
-    "plain_script.py": script, "original_rows.py": original, "speed_sums.py": speed, "compare_speed.py": compare,
-    "speed/as_proved.py": marks, "speed/speed_table.py": table_of_speed, "speed/pictures.py": drawing,
-    "failures/driver.py": driver, "failures/shared.py": of_shared, "failures/hostile.py": hostile_input,
-    "failures/middle.py": rows_in_the_middle, "failures/naming.py": names, "failures/table.py": refusals,
-    "failures/pagectl.py": scripts, "fuzz.py": fuzzed, "programs": programs, "gate.py": of_gate,
-    "gate_times.py": of_times, "file_blobs": files, "host_files": host_files, "hostile": hostile_run, "rows": data_rows, "nightly.py": of_night,
+    "check_text.py": check_text, "copy_crates.py": copies, "edits.py": edits_of_bodies, "wrong_bodies.py": bodies,
+    "threads": threads, "tests.py": of_tests, "plain_pager.py": pager, "plain_rows.py": pager_rows,
+    "plain_values.py": values, "plain_script.py": script, "original_rows.py": original, "speed_sums.py": speed,
+    "compare_speed.py": compare, "speed/as_proved.py": marks, "speed/speed_table.py": table_of_speed,
+    "speed/pictures.py": drawing, "failures/driver.py": driver, "failures/shared.py": of_shared,
+    "failures/hostile.py": hostile_input, "failures/middle.py": rows_in_the_middle, "failures/naming.py": names,
+    "failures/table.py": refusals, "failures/pagectl.py": scripts, "fuzz.py": fuzzed, "programs": programs,
+    "gate.py": of_gate, "gate_times.py": of_times, "file_blobs": files, "host_files": host_files, "hostile": hostile_run,
+    "rows": data_rows, "nightly.py": of_night,
 }
 
 

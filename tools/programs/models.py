@@ -1,4 +1,5 @@
-"""Plain models of the three programs whose files last."""
+"""Plain models of the programs whose files last."""
+import hashlib
 import operator
 import random
 import re
@@ -184,3 +185,16 @@ class Sheet:
             raise Refused("a line is set NAME 5, set NAME =A+B, get NAME, undo or stats")
         self.values = {}
         return "ok"
+
+
+# ---- remote: each text in a file whose name is its hash, with a reference to the one before
+
+def texts_as_files(texts):
+    """The files that keep these texts, each of less than 128 bytes: the bytes of each by its name, in their order."""
+    files, before = {}, []
+    for text in map(str.encode, texts):
+        own = bytes([0, len(text)]) + text + bytes([len(before)])
+        content = len(before).to_bytes(8, "little") + own + b"".join(before)
+        before = [hashlib.sha256(content).digest()[:16]]
+        files[before[0].hex()] = content
+    return files

@@ -1,8 +1,8 @@
 #!/usr/bin/env python3
-"""Runs the three programs whose files last, each several times on one file, and compares what they say and write with
-plain models; its status is 0 if all is the same.
+"""Runs the programs whose files last, each several times on one file or folder, and compares what they say and write
+with plain models; its status is 0 if all is the same.
 
-    tools/programs/run.py [PROGRAM..]        (with no word: build_cache, heap_snapshot and spreadsheet)
+    tools/programs/run.py [PROGRAM..]        (with no word: build_cache, heap_snapshot, spreadsheet and remote)
 
 They are built unproved, by `rt try`, as tools/speed/build.py says, in a copy of the repository's crates. Each is also
 run once on the words, input and files that stand beside its code, and has to print what is stored there.
@@ -16,7 +16,7 @@ import sys
 import tempfile
 
 HERE = pathlib.Path(__file__).resolve().parent
-CRATES = HERE.parent / "crates"
+CRATES, PROVED = HERE.parent / "crates", HERE.parent.parent / "crates"
 sys.path += [str(HERE), str(HERE.parent / "speed")]
 import build  # noqa: E402
 import models  # noqa: E402
@@ -37,7 +37,7 @@ def expect(found, wanted, what):
 
 def expect_stored_run(program, name, folder):
     """Ends the program where a run on the words, input and files of a crate doesn't print what is stored there."""
-    crate = CRATES / name
+    crate = next(it / name for it in (CRATES, PROVED) if (it / name).exists())
     folder.mkdir()
     if (crate / "data").exists():
         shutil.copytree(crate / "data", folder, dirs_exist_ok=True)
@@ -191,8 +191,46 @@ def spreadsheet(program, work):
     return runs + 6
 
 
+def expect_refusal(program, file, text, said, why):
+    """Ends the program where the texts of a folder are still read, or for another reason not, if a file has another
+    content or, with none, isn't there. The file is left as it was."""
+    content = file.read_bytes()
+    file.unlink() if text is None else file.write_bytes(text)
+    last = said.split(maxsplit=1)[0]
+    shown = said.partition(f"{file.name} ")[0]
+    expect_failure(run(program, [file.parent, "get", last]), shown, why, f"{file.name} with {text!r}")
+    file.write_bytes(content)
+
+
+def remote(program, work):
+    """Wrong calls, texts that one run writes and another reads, files of another writer, and each file of them changed
+    at each byte, cut, emptied, exchanged and removed."""
+    usage = "remote FOLDER put TEXT.. | remote FOLDER get KEY"
+    expect_usage(program, usage, [], ["a"], ["a", "put"], ["a", "look", "b"])
+    texts, folder, other = ["first", "", "third"], work / "folder", work / "other"
+    files = models.texts_as_files(texts)
+    said = "".join(f"{name} {text}\n" for name, text in reversed([*zip(files, texts)]))
+    expect(run(program, [folder, "put", *texts]), (0, f"{list(files)[-1]}\n"), "the key of the last text")
+    expect({file.name: file.read_bytes() for file in folder.iterdir()}, files, "the files of the texts")
+    other.mkdir()
+    for name, content in files.items():
+        (other / name).write_bytes(content)
+    for place in (folder, other):
+        expect(run(program, [place, "get", list(files)[-1]]), (0, said), f"the texts in {place}")
+    runs = 7
+    for name, content in files.items():
+        changed = [bytes([*content[:at], content[at] ^ 1, *content[at + 1 :]]) for at in range(len(content))]
+        for text in [*changed, content[:-1], content[:7], b"", next(it for it in files.values() if it != content)]:
+            expect_refusal(program, other / name, text, said, [f"the file {name} was changed"])
+            runs += 1
+        expect_refusal(program, other / name, None, said, [f"no blob under the key {name}"])
+        expect(run(program, [other, "get", list(files)[-1]]), (0, said), "the texts once all is as it was")
+        runs += 2
+    return runs
+
+
 def main():
-    for name in sys.argv[1:] or ["build_cache", "heap_snapshot", "spreadsheet"]:
+    for name in sys.argv[1:] or ["build_cache", "heap_snapshot", "spreadsheet", "remote"]:
         random.seed(name)
         with tempfile.TemporaryDirectory() as folder:
             folder = pathlib.Path(folder)

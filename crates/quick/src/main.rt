@@ -1,8 +1,8 @@
-//! Keeps a text in a pager, pages it out, and reads it back. Prints each step with its result.
 #![tactic(auto)]
 
-use pagable::cells::{insert, look};
-use pagable::paging::page_out_pending;
+use pagable::cell_page_out::page_out;
+use pagable::cells::insert;
+use pagable::paging::pin;
 use pagable::{Error, InMemoryBlobs, Pager, Record, Records};
 
 /// A pager of records over blobs in memory.
@@ -15,16 +15,17 @@ fn keep_text(rt: &HostRuntime, pager: &mut RecordPager, text: &str) -> Result<()
     // A value becomes a cell. Nothing pins it, so it waits for page-out.
     let node = Record::node(alloc, 0, text, Vec::new(alloc))?;
     let cell = insert(alloc, pager, node)?;
-    let _ = println!(rt; "insert a text      {} waits for page-out", pager.pending());
+    let _ = println!(rt; "insert    {} waits for page-out", pager.pending());
 
-    // It is stored under the key of its content, and leaves memory.
-    page_out_pending(alloc, pager)?;
-    let _ = println!(rt; "page out           {} wait for page-out", pager.pending());
-    let _ = println!(rt; "is it in memory?   {}", !pager.is_paged_out(cell)?);
+    // It is stored under its key, the hash of its content, and leaves memory.
+    let key = page_out(alloc, pager, cell)?;
+    let _ = println!(rt; "page out  {key}");
+    let _ = println!(rt; "is out    {}", pager.is_paged_out(cell)?);
 
-    // A look reads it back, and lets it go again.
-    let found = look(alloc, pager, cell, |node| node.value.text.clone())??;
-    let _ = println!(rt; "look at it         {}", found.as_str());
+    // A pin reads it back, and keeps it in memory.
+    let (pinned, node) = pin(alloc, pager, cell)?;
+    let _ = println!(rt; "pin       {}", node.value.text.as_str());
+    pager.release(pinned)?;
     pager.release(cell)
 }
 
