@@ -737,7 +737,8 @@ TOOLS = {
     "speed/pictures.py": drawing, "failures/driver.py": driver, "failures/shared.py": of_shared,
     "failures/hostile.py": hostile_input, "failures/middle.py": rows_in_the_middle, "failures/naming.py": names,
     "failures/table.py": refusals, "failures/pagectl.py": scripts, "fuzz.py": fuzzed, "programs": programs,
-    "gate.py": of_gate, "gate_times.py": of_times, "file_blobs": files, "host_files": host_files, "hostile": hostile_run,
+    "gate.py": of_gate, "gate_times.py": of_times, "file_blobs": files, "host_files": host_files,
+    "hostile": hostile_run,
     "rows": data_rows, "nightly.py": of_night,
 }
 

@@ -7,9 +7,9 @@ that are none.
 
 PROGRAM is the built `blobctl`; without one it is built here, unproved, as tools/speed/build.py says. It is killed at
 KILLS drawn moments (40) while it writes, and at as many while it collects garbage: each of them has to meet a running
-program, and nothing that a flush had answered may be lost. For SECONDS (10) two writers work beside a loop of gc and one
-of looks, and for as long a writer beside looks and copies. What is drawn depends on SEED (5). The status is 0 if all
-holds.
+program, and nothing that a flush had answered may be lost. For SECONDS (10) two writers work beside a loop of gc and
+one of looks, and for as long a writer beside looks and copies. What is drawn depends on SEED (5). The status is 0 if
+all holds.
 """
 import pathlib
 import subprocess
@@ -133,8 +133,9 @@ def beside(program, folder, seconds):
     counts = {kind: len(set(found)) for kind, found in both.found.items()}
     if both.odd or min(counts.values()) < 3:
         return f"beside a writer: {both.odd[:3]}, {counts}"
-    print(f"beside a writer of {both.answered} flushes: {len(both.found['looks'])} looks and {len(both.found['copies'])}"
-          " copies have all that was flushed before them, and nothing by half")
+    looks, copied = (len(found) for found in both.found.values())
+    print(f"beside a writer of {both.answered} flushes: {looks} looks and {copied} copies have all that was flushed before"
+          " them, and nothing by half")
     return None
 
 
