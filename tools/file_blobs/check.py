@@ -90,7 +90,7 @@ class Beside:
 
     def told(self, kind, answered, root, count):
         """Notes what was found, which has to be all that was flushed up to some moment since."""
-        if root is None and not answered and not count:
+        if root is None and not answered:
             return
         number = self.roots.index(root) + 1 if root in self.roots else -1
         if number < answered or count < number:
@@ -173,7 +173,7 @@ def copies(program, folder):
         if words[0] == "copy" and shown != seen(program, other):
             return "copies: what `copy` wrote shows something else"
         file = alone(file).rename(removed(file))
-    if left := sorted(it.name for it in folder.glob("*-wal")):
+    if left := sorted(it.name for it in folder.glob("source.blobs*") if not it.name.endswith((".copy", ".blobs"))):
         return f"copies: {left} stand beside the files"
     print(f"copies of the file, behind each of {len(commands)} commands, have all; what only looks writes nothing")
     return None
