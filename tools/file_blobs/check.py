@@ -134,8 +134,8 @@ def beside(program, folder, seconds):
     if both.odd or min(counts.values()) < 3:
         return f"beside a writer: {both.odd[:3]}, {counts}"
     looks, copied = (len(found) for found in both.found.values())
-    print(f"beside a writer of {both.answered} flushes: {looks} looks and {copied} copies have all that was flushed before"
-          " them, and nothing by half")
+    print(f"beside a writer of {both.answered} flushes: {looks} looks and {copied} copies have all that was flushed"
+          " before them, and nothing by half")
     return None
 
 
