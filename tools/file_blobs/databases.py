@@ -121,14 +121,15 @@ def refused_imports(program, folder, old, taken):
         (none, file, "there is no such file"),
         (text, file, "the database: "),
         (old_database(other, [], [], "CREATE TABLE blobs (key TEXT)"), file, "the database: "),
+        (taken, file, "the database: "),
         (old, taken, "is there already"),
     ):
         done, left = imported(program, source, to)
         if said not in done.stdout or done.returncode != 1 or file.exists() or f"{source.name}-wal" in left:
             return f"import of {source.name}: {done.stdout}{done.stderr}, {left}"
-    if taken.read_bytes() != content or none.exists():
+    if taken.read_bytes() != content or text.read_bytes() != b"no database" * 100 or none.exists():
         return "import: a file that is there has changed, or one was made"
-    print(f"import-old: databases of the earlier form, with a log and without, and {len(changed) + 5} that are refused")
+    print(f"import-old: databases of the earlier form, with a log and without, and {len(changed) + 6} that are refused")
     return None
 
 
