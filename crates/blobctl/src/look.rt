@@ -24,7 +24,7 @@ fn count_roots<B: Blobs>(alloc: Global, blobs: &mut B) -> Result<u64, Error> {
     Ok(count)
 }
 
-/// Counts the flushed blobs, their bytes, and the names that stand for keys.
+/// Counts the blobs, their bytes, and the names that stand for keys.
 pub fn stat<B: Blobs>(alloc: Global, blobs: &mut B) -> Result<String, Error> {
     let all = blobs.list(alloc)?;
     let names = count_roots(alloc, blobs)?;
@@ -32,7 +32,7 @@ pub fn stat<B: Blobs>(alloc: Global, blobs: &mut B) -> Result<String, Error> {
     Ok(format!(in alloc; "{count} blobs, {bytes} bytes, {names} names\n")?)
 }
 
-/// Shows each flushed blob on a line.
+/// Shows each blob on a line.
 pub fn list<B: Blobs>(alloc: Global, blobs: &mut B) -> Result<String, Error> {
     let mut text = String::new(alloc);
     for blob in &blobs.list(alloc)? {
