@@ -42,6 +42,7 @@ import nightly  # noqa: E402
 import original_rows  # noqa: E402
 import pagectl  # noqa: E402
 import pictures  # noqa: E402
+import plain_file  # noqa: E402
 import plain_pager  # noqa: E402
 import plain_rows  # noqa: E402
 import plain_script  # noqa: E402
@@ -700,6 +701,19 @@ def host_files(work):
         yield why, "\n".join(found)
 
 
+def plain_files(_):
+    """A file of blobs whose sum, name or header is another one, or whose gate is shut."""
+    first = plain_file.blob(b"one")
+    content = plain_file.file_of(plain_file.batch([first], [(b"main", first[0])]))
+    yield "", "" if plain_file.PlainFile(content).roots() == [f"main {first[0]}"] else "other names"
+    for at, why in [(0, "none of blobs"), (33, "is damaged"), (len(content) - 2, "is damaged"), (16, "no blob")]:
+        try:
+            read = plain_file.PlainFile(content[:at] + b"?" + content[at + 1 :])
+            yield why, f"{read.blobs or 'no blob'}"
+        except plain_file.Refused as refused:
+            yield why, str(refused)
+
+
 def hostile_run(work):
     """An input that comes to something else, and one that comes too late."""
     run = module_at("run_of_hostile", HERE / "hostile" / "run.py").Run(work)
@@ -737,8 +751,8 @@ TOOLS = {
     "speed/pictures.py": drawing, "failures/driver.py": driver, "failures/shared.py": of_shared,
     "failures/hostile.py": hostile_input, "failures/middle.py": rows_in_the_middle, "failures/naming.py": names,
     "failures/table.py": refusals, "failures/pagectl.py": scripts, "fuzz.py": fuzzed, "programs": programs,
-    "gate.py": of_gate, "gate_times.py": of_times, "file_blobs": files, "host_files": host_files, "hostile": hostile_run,
-    "rows": data_rows, "nightly.py": of_night,
+    "gate.py": of_gate, "gate_times.py": of_times, "file_blobs": files, "host_files": host_files,
+    "file_blobs/plain_file.py": plain_files, "hostile": hostile_run, "rows": data_rows, "nightly.py": of_night,
 }
 
 

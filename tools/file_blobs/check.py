@@ -7,9 +7,9 @@ that are none.
 
 PROGRAM is the built `blobctl`; without one it is built here, unproved, as tools/speed/build.py says. It is killed at
 KILLS drawn moments (40) while it writes, and at as many while it collects garbage: each of them has to meet a running
-program, and nothing that a flush had answered may be lost. For SECONDS (10) two writers work beside a loop of gc and one
-of looks, and for as long a writer beside looks and copies. What is drawn depends on SEED (5). The status is 0 if all
-holds.
+program, and nothing that a flush had answered may be lost. For SECONDS (10) two writers work beside a loop of gc and
+one of looks, and for as long a writer beside looks and copies. What is drawn depends on SEED (5). The status is 0 if
+all holds.
 """
 import pathlib
 import subprocess
@@ -90,7 +90,7 @@ class Beside:
 
     def told(self, kind, answered, root, count):
         """Notes what was found, which has to be all that was flushed up to some moment since."""
-        if root is None and not answered and not count:
+        if root is None and not answered:
             return
         number = self.roots.index(root) + 1 if root in self.roots else -1
         if number < answered or count < number:
@@ -133,8 +133,9 @@ def beside(program, folder, seconds):
     counts = {kind: len(set(found)) for kind, found in both.found.items()}
     if both.odd or min(counts.values()) < 3:
         return f"beside a writer: {both.odd[:3]}, {counts}"
-    print(f"beside a writer of {both.answered} flushes: {len(both.found['looks'])} looks and {len(both.found['copies'])}"
-          " copies have all that was flushed before them, and nothing by half")
+    looks, copied = (len(found) for found in both.found.values())
+    print(f"beside a writer of {both.answered} flushes: {looks} looks and {copied} copies have all that was flushed"
+          " before them, and nothing by half")
     return None
 
 
@@ -172,7 +173,7 @@ def copies(program, folder):
         if words[0] == "copy" and shown != seen(program, other):
             return "copies: what `copy` wrote shows something else"
         file = alone(file).rename(removed(file))
-    if left := sorted(it.name for it in folder.glob("*-wal")):
+    if left := sorted(it.name for it in folder.glob("source.blobs*") if not it.name.endswith((".copy", ".blobs"))):
         return f"copies: {left} stand beside the files"
     print(f"copies of the file, behind each of {len(commands)} commands, have all; what only looks writes nothing")
     return None

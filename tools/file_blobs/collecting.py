@@ -75,8 +75,8 @@ def race(program, folder, seconds):
     met = [len(runs.collected), len(runs.flushed), len(runs.refused), len(runs.looks)]
     if min(met) < 3:
         return f"gc beside writers: of gc, flushes, refusals and looks only {met} in {seconds} s"
-    print(f"gc beside two writers for {seconds} s: {met[0]} gc, {met[1]} flushes, {met[2]} times in use, {met[3]} looks,"
-          " nothing gone")
+    print(f"gc beside two writers for {seconds} s: {met[0]} gc, {met[1]} flushes, {met[2]} times in use,"
+          f" {met[3]} looks, nothing gone")
     return None
 
 
@@ -225,6 +225,6 @@ def keeps(program, folder):
     fault = access(program, file, shown) or refusals(program, file, shown) or garbage(program, file)
     fault = fault or shows_same(program, file, shown, "a gc of what no root reaches")
     if not fault:
-        print("gc keeps mode, owner and link, leaves out what no root reaches, and is refused by name beside a file that"
-              " isn't its own and of a file with two names")
+        print("gc keeps mode, owner and link, leaves out what no root reaches, and is refused by name beside a file"
+              " that isn't its own and of a file with two names")
     return fault

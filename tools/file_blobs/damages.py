@@ -136,7 +136,8 @@ def each_byte(program, folder):
         found, wanted = looked(program, file), plainly(bad)
         if found != wanted or file.read_bytes() != bad:
             return f"byte {at} of {len(content)} made {turned}: {found} in place of {wanted}"
-        kind = "refused" if isinstance(found, set) else "named" if found[2] else "unseen" if found == whole else "hidden"
+        seen = "unseen" if found == whole else "hidden"
+        kind = "refused" if isinstance(found, set) else "named" if found[2] else seen
         counts[kind] = counts.get(kind, 0) + 1
     if counts.keys() != {"refused", "named", "unseen", "hidden"} or counts["unseen"] != 1:
         return f"each byte: {counts}"

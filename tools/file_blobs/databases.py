@@ -1,6 +1,8 @@
 """Tries `export-db` and `import-old` of `blobctl` against SQLite: what is exported is read by it, and databases that it
 makes are imported, in this project's earlier form too."""
+import shutil
 import sqlite3
+import struct
 import subprocess
 
 from asking import chain, key_of, removed, run, seen
@@ -29,6 +31,40 @@ def old_database(file, blobs, roots, tables=OLD):
     return file
 
 
+def sum_of(page):
+    """The sum of a page, as SQLite's cksumvfs makes it."""
+    low = high = 0
+    for first, second in struct.iter_unpack("<II", page[:-8]):
+        low = (low + first + high) % 2**32
+        high = (high + second + low) % 2**32
+    return struct.pack("<II", low, high)
+
+
+def with_sums(file):
+    """Ends each page of a database in a sum, as the earlier form has it."""
+    words = ["sqlite3", file, ".filectrl reserve_bytes 8", "VACUUM"]
+    subprocess.run(words, check=True, capture_output=True, timeout=100)
+    content = file.read_bytes()
+    pages = [content[at : at + 4096] for at in range(0, len(content), 4096)]
+    file.write_bytes(b"".join(page[:-8] + sum_of(page) for page in pages))
+    if content[20] != 8:
+        raise SystemExit("sqlite3 leaves no room for the sums of pages")
+    return file
+
+
+def with_log(file):
+    """Makes a database with a log that has one blob more, as a program that was killed leaves them."""
+    source = old_database(file.with_name("source.db"), BLOBS, ROOTS)
+    with sqlite3.connect(source) as made:
+        made.execute("PRAGMA journal_mode = WAL")
+        row = (9, bytes.fromhex(key_of(b"more")), b"more", b"")
+        made.execute("INSERT INTO blobs (place, key, bytes, children) VALUES (?, ?, ?, ?)", row)
+        made.commit()
+        for end in ("", "-wal"):
+            shutil.copy(f"{source}{end}", f"{file}{end}")
+    made.close()
+
+
 def imported(program, old, file):
     """What is said of an import, and what it leaves."""
     done = subprocess.run([program, "import-old", old, file], capture_output=True, text=True, check=False, timeout=100)
@@ -41,7 +77,7 @@ def imports(program, folder):
     folder = folder / "imports"
     folder.mkdir()
     old, file = folder / "old.db", folder / "new.blobs"
-    before = old_database(old, BLOBS, ROOTS).read_bytes()
+    before = with_sums(old_database(old, BLOBS, ROOTS)).read_bytes()
     done, left = imported(program, old, file)
     if (done.stdout, left) != ("3 blobs, 2 names imported\n", ["new.blobs", "old.db"]):
         return f"import: {done.stdout}{done.stderr}, {left}"
@@ -51,6 +87,16 @@ def imports(program, folder):
         return f"import: {listed}, {roots}"
     if run(program, file, "fsck").returncode or old.read_bytes() != before:
         return "import: a flaw, or the database has changed"
+    damaged, again = folder / "damaged.db", folder / "damaged.blobs"
+    damaged.write_bytes(before[:5000] + b"?" + before[5001:])
+    done, left = imported(program, damaged, again)
+    if "the database: " not in done.stdout or again.exists():
+        return f"import of a page with another sum: {done.stdout}{done.stderr}"
+    damaged.unlink()
+    with_log(folder / "log.db")
+    done, left = imported(program, folder / "log.db", again)
+    if done.stdout != "4 blobs, 2 names imported\n" or left != ["damaged.blobs", "log.db", "log.db-wal"]:
+        return f"import of a database with a log: {done.stdout}{done.stderr}, {left}"
     return refused_imports(program, folder, old, file)
 
 
@@ -75,14 +121,15 @@ def refused_imports(program, folder, old, taken):
         (none, file, "there is no such file"),
         (text, file, "the database: "),
         (old_database(other, [], [], "CREATE TABLE blobs (key TEXT)"), file, "the database: "),
+        (taken, file, "the database: "),
         (old, taken, "is there already"),
     ):
         done, left = imported(program, source, to)
         if said not in done.stdout or done.returncode != 1 or file.exists() or f"{source.name}-wal" in left:
             return f"import of {source.name}: {done.stdout}{done.stderr}, {left}"
-    if taken.read_bytes() != content or none.exists():
+    if taken.read_bytes() != content or text.read_bytes() != b"no database" * 100 or none.exists():
         return "import: a file that is there has changed, or one was made"
-    print(f"import-old: a database of the earlier form, and {len(changed) + 4} that are refused")
+    print(f"import-old: databases of the earlier form, with a log and without, and {len(changed) + 6} that are refused")
     return None
 
 

@@ -1,4 +1,4 @@
-"""What docs/FORMAT.md says of a file of blobs, in plain Python: files are made and read by it apart from the program."""
+"""What docs/FORMAT.md says of a file of blobs, in plain Python: it makes and reads files apart from the program."""
 import hashlib
 import struct
 

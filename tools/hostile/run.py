@@ -175,7 +175,8 @@ def made_files(run, program):
     """Files of blobs that are made on purpose: lengths that no file has, and rows that ask for what isn't there."""
     key, head, damaged = "01" * 16, plain_file.HEADER + b"\1", ("", "blobctl: made.blobs: the file is damaged\n", 1)
     with_rows = lambda rows: head + struct.pack("<QQQ", 0, len(rows), plain_file.sum_of(rows)) + rows
-    many = [(f"{number:032x}", 0, b"") for number in range(1, 20_000)]
+    many = plain_file.file_of(plain_file.batch([(f"{number:032x}", 0, b"") for number in range(1, 20_000)]))
+    names = plain_file.file_of(plain_file.batch([], [(name, key) for name in collide.keys(1_000)]))
     for what, content, wanted in [
         ("lengths of 2^64 - 1", head + b"\xff" * 24, ("0 blobs, 0 flaws\n", "", 0)),
         ("rows of 2^62 bytes", head + struct.pack("<QQQ", 0, 2**62, 1), ("0 blobs, 0 flaws\n", "", 0)),
@@ -183,7 +184,8 @@ def made_files(run, program):
         ("a body of 4 GiB", with_rows(bytes.fromhex(key) + struct.pack("<II", 0, 2**32 - 1)), damaged),
         ("2^32 - 2 child keys", with_rows(bytes.fromhex(key) + struct.pack("<II", 2**32 - 2, 0)), damaged),
         ("a name of 4 GiB", with_rows(bytes.fromhex(key) + struct.pack("<II", 2**32 - 1, 2**32 - 1)), damaged),
-        ("19,999 empty bodies", plain_file.file_of(plain_file.batch(many)), (".*19999 blobs, 19999 flaws\n", "10000 blobs\n", 1)),
+        ("1,000 names of one hash", names, (".*0 blobs, 1000 flaws\n", "", 1)),
+        ("19,999 empty bodies", many, (".*19999 blobs, 19999 flaws\n", "10000 blobs\n", 1)),
     ]:
         (run.folder / "made.blobs").write_bytes(content)
         said, fault, status, seconds = run.ask([program, "made.blobs", "fsck"], limit=64 * MIB)

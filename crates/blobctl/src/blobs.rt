@@ -12,11 +12,10 @@ use std::sync::Arc;
 /// An open file of blobs. Each call makes the call of `FileBlobs` that does the same, and has its
 /// errors.
 pub trait Blobs: Drop {
-    /// Lists all blobs but those that wait for a flush.
+    /// Lists all blobs, also those that wait for a flush.
     fn list(&mut self, alloc: Global) -> Result<Vec<ListedBlob>, Error>;
 
-    /// Lists all names that stand for a key, also those not yet flushed, and maybe some that once
-    /// did.
+    /// Lists each name that stands for a key, once, also those that wait for a flush.
     fn root_names(&mut self, alloc: Global) -> Result<Vec<String>, Error>;
 
     /// Returns the key that a name stands for, if it stands for one.

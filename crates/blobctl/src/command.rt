@@ -6,9 +6,9 @@ use pagable_flavors::DataKey;
 /// What a line asks of a file of blobs, by its first word.
 #[derive(Clone, Copy)]
 pub enum Verb {
-    /// `stat`: counts of the flushed blobs, their bytes, and the names.
+    /// `stat`: counts of the blobs, their bytes, and the names.
     Stat,
-    /// `list`: all flushed blobs.
+    /// `list`: all blobs.
     List,
     /// `roots`: the names, with the keys that they stand for.
     Roots,

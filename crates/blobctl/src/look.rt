@@ -13,26 +13,15 @@ fn total(all: &[ListedBlob]) -> u64 {
         .fold(0, |sum: u64, blob| sum.saturating_add(blob.bytes))
 }
 
-/// Counts the names that stand for keys.
-fn count_roots<B: Blobs>(alloc: Global, blobs: &mut B) -> Result<u64, Error> {
-    let mut count: u64 = 0;
-    for name in &blobs.root_names(alloc)? {
-        if blobs.root(name.as_str())?.is_some() {
-            count = count.saturating_add(1);
-        }
-    }
-    Ok(count)
-}
-
-/// Counts the flushed blobs, their bytes, and the names that stand for keys.
+/// Counts the blobs, their bytes, and the names that stand for keys.
 pub fn stat<B: Blobs>(alloc: Global, blobs: &mut B) -> Result<String, Error> {
     let all = blobs.list(alloc)?;
-    let names = count_roots(alloc, blobs)?;
+    let names = blobs.root_names(alloc)?.len();
     let (count, bytes) = (all.len(), total(all.as_slice()));
     Ok(format!(in alloc; "{count} blobs, {bytes} bytes, {names} names\n")?)
 }
 
-/// Shows each flushed blob on a line.
+/// Shows each blob on a line.
 pub fn list<B: Blobs>(alloc: Global, blobs: &mut B) -> Result<String, Error> {
     let mut text = String::new(alloc);
     for blob in &blobs.list(alloc)? {

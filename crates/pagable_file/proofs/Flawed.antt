@@ -133,3 +133,31 @@ stays_then g a b c s t = record {
   may = t.may ∙ s.may;
   clean = λ clean. s.clean (t.clean clean);
 }
+
+pub key_flaw : (of : Blob → ℕ) (bodies : ℕ → Option Body) (names : List ℕ → Option ℕ) (key : ℕ) (blob : Blob) (old new : List Flaw)
+    → new ≡ old ++ flaw.WrongKey key ∷ [] → blobs_of bodies key ≡ Some blob → of blob ≢ key → AddsFlawsUnless (IsFlaw of bodies names) old new (of blob ≡ key)
+key_flaw of bodies names key blob old new is at apart = flawed (flaw.WrongKey key) is (blob, at, apart)
+
+pub stray_body : (of : Blob → ℕ) (bodies : ℕ → Option Body) (names : List ℕ → Option ℕ) (key : ℕ) (body : Body) (old new : List Flaw) (Q : Type 0)
+    → new ≡ old ++ flaw.StrayBlob key ∷ [] → bodies key ≡ Some body → IsStray key body → AddsFlawsUnless (IsFlaw of bodies names) old new Q
+stray_body of bodies names key body old new Q is at stray = flawed (flaw.StrayBlob key) is (body, at, stray)
+
+pub name_missing : (of : Blob → ℕ) (bodies : ℕ → Option Body) (names : List ℕ → Option ℕ) (name : List ℕ) (key : ℕ) (a b : List Flaw)
+    → names name ≡ Some key → AddsFlawsUnless (IsFlaw of bodies names) a b (IsThere bodies key)
+    → AddsFlawsUnless (IsFlaw of bodies names) a b (IsSoundName bodies names name)
+name_missing of bodies names name key a b stands = tested_as (λ there k is. let one : Some key ≡ Some k = sym stands ∙ is in let same : key ≡ k = (cc) in rw (← same) there)
+
+pub nameless : (bodies : ℕ → Option Body) (names : List ℕ → Option ℕ) (name : List ℕ) → names name ≡ None → IsSoundName bodies names name
+nameless bodies names name none key is = absurd (let both : None ≡ Some key = sym none ∙ is in cc)
+
+-- all blobs and all names were tested
+pub all_found : (of : Blob → ℕ) (bodies bodies' : ℕ → Option Body) (names names' : List ℕ → Option ℕ) {start mid end : List Flaw} → start ≡ []
+    → bodies' ≡ bodies → names' ≡ names → AddsFlawsUnless (IsFlaw of bodies names) start mid ((key : ℕ) → IsSoundAt of bodies key)
+    → AddsFlawsUnless (IsFlaw of bodies' names') mid end ((name : List ℕ) → IsSoundName bodies' names' name)
+    → AddsFlawsUnless (IsFlaw of bodies names) [] end (IsWhole of bodies names)
+all_found of bodies bodies' names names' empty same same' f g =
+    rw (← empty) (tested_as (λ h. record { blobs = h.0; named = h.1 }) (tested_then f (rw (same, same') at g)))
+
+pub ruleset testing = (flawed, passed, key_flaw, stray_body, body_tested, none_at, name_missing, nameless, stays_self, stays_then)
+
+pub ruleset looping = (each_next, each_tested, passed, stays_self, stays_then)

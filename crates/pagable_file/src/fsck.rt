@@ -41,6 +41,7 @@ pub enum Flaw {
 }
 
 /// Adds `flaw` if no blob is stored under `key`.
+#[tactic(auto, using(crate::proofs::Flawed::testing))]
 fn test_there<D: Disk>(
     file: &BlobFile<D>,
     flaws: &mut Vec<Flaw>,
@@ -60,6 +61,7 @@ fn test_there<D: Disk>(
 }
 
 /// Adds a flaw for each of `children`, the children of the blob under `key`, that isn't stored.
+#[tactic(auto, using(crate::proofs::Flawed::looping))]
 fn test_children<D: Disk>(
     file: &BlobFile<D>,
     flaws: &mut Vec<Flaw>,
@@ -78,6 +80,7 @@ fn test_children<D: Disk>(
 }
 
 /// Adds a flaw if the key computed from `blob` isn't `key`.
+#[tactic(auto, using(crate::proofs::Flawed::testing))]
 fn test_key<H: KeyHash>(
     flaws: &mut Vec<Flaw>,
     key: DataKey,
@@ -116,6 +119,7 @@ fn keyed_blob(
 }
 
 /// Tests the body that was found under a number, and adds its flaws.
+#[tactic(auto, using(crate::proofs::Flawed::testing))]
 fn test_body<H: KeyHash, D: Disk>(
     alloc: Global,
     file: &BlobFile<D>,
@@ -140,6 +144,7 @@ fn test_body<H: KeyHash, D: Disk>(
 }
 
 /// Fetches what stands under a number, tests it, and adds its flaws.
+#[tactic(auto, using(crate::proofs::Flawed::testing))]
 fn test_blob<H: KeyHash, D: Disk, W: Watch>(
     alloc: Global,
     file: &mut BlobFile<D>,
@@ -162,6 +167,7 @@ fn test_blob<H: KeyHash, D: Disk, W: Watch>(
 }
 
 /// Tests what stands under each number, and adds the flaws.
+#[tactic(auto, using(crate::proofs::Flawed::looping))]
 fn test_blobs<H: KeyHash, D: Disk, W: Watch>(
     alloc: Global,
     file: &mut BlobFile<D>,
@@ -183,6 +189,7 @@ fn test_blobs<H: KeyHash, D: Disk, W: Watch>(
 }
 
 /// Adds a flaw if the blob of the key that a name stands for isn't stored.
+#[tactic(auto, using(crate::proofs::Flawed::testing))]
 fn test_name<D: Disk>(
     alloc: Global,
     file: &BlobFile<D>,
@@ -203,6 +210,7 @@ fn test_name<D: Disk>(
 }
 
 /// Tests each name, and adds the flaws.
+#[tactic(auto, using(crate::proofs::Flawed::looping))]
 fn test_names<D: Disk>(
     alloc: Global,
     file: &BlobFile<D>,

@@ -139,7 +139,10 @@ pub fn named_after_crash<E: Env, D: Crash + Drop>(
         Ok(_) => {}
         Err(_) => return None,
     }
-    if !blobs.file.log.is_whole || !blobs.file.log.may_write {
+    if !blobs.file.log.is_whole {
+        return None;
+    }
+    if !blobs.file.log.may_write {
         return None;
     }
     match crash_and_open(alloc, blobs) {

@@ -220,7 +220,9 @@ fn look_at_bytes(alloc: Global, bytes: &[u8]) -> Result<Blobs<Sha256Key>, Fail> 
 }
 
 #[test]
-fn a_look_at_a_cut_copy_shows_the_whole_flushes_and_writes_nothing(rt: HostRuntime) -> Result<(), Fail> {
+fn a_look_at_a_cut_copy_shows_the_whole_flushes_and_writes_nothing(
+    rt: HostRuntime,
+) -> Result<(), Fail> {
     let alloc = rt.alloc();
     let mut blobs = open_bytes::<Sha256Key>(alloc, b"")?;
     let body = blobs.store_data(alloc, blob_with(alloc, b"body", &[])?)?;
@@ -251,7 +253,12 @@ fn a_look_at_a_cut_copy_shows_the_whole_flushes_and_writes_nothing(rt: HostRunti
 #[test]
 fn a_look_leaves_each_byte_as_it_is(rt: HostRuntime) -> Result<(), Fail> {
     let alloc = rt.alloc();
-    for file in [b"".as_slice(), b"pagable", b"pagable blobs 2\n", b"pagable blobs 2\n\x01\x05"] {
+    for file in [
+        b"".as_slice(),
+        b"pagable",
+        b"pagable blobs 2\n",
+        b"pagable blobs 2\n\x01\x05",
+    ] {
         let mut look = look_at_bytes(alloc, file)?;
         assert_eq!(rt; look.list(alloc)?.len(), 0);
         assert!(rt; look.flush().is_ok());
@@ -272,8 +279,16 @@ fn what_waits_is_counted_and_listed(rt: HostRuntime) -> Result<(), Fail> {
     blobs.set_root(alloc, "main", Some(over))?;
     assert_eq!(rt; blobs.pending(), 1);
     let listed = blobs.list(alloc)?;
-    let first = ListedBlob { key: body, bytes: 4, children: 0 };
-    let second = ListedBlob { key: over, bytes: 5, children: 2 };
+    let first = ListedBlob {
+        key: body,
+        bytes: 4,
+        children: 0,
+    };
+    let second = ListedBlob {
+        key: over,
+        bytes: 5,
+        children: 2,
+    };
     assert_eq!(rt; listed.len(), 2);
     assert!(rt; listed.contains(&first) && listed.contains(&second));
     Ok(())
@@ -315,29 +330,37 @@ fn file_without_its_root(alloc: Global) -> Result<Blobs<Sha256Key>, Fail> {
     }
 }
 
+/// Whether a check of the file finds these flaws.
+fn has_flaws(alloc: Global, mut blobs: Blobs<Sha256Key>, wanted: &[Flaw]) -> Result<bool, Fail> {
+    let found = blobs.fsck(alloc, &mut ())?;
+    Ok(found.as_slice() == wanted)
+}
+
 #[test]
 fn each_flaw_is_told(rt: HostRuntime) -> Result<(), Fail> {
     let alloc = rt.alloc();
     let (Some(body), Some(over)) = (DataKey::new(BODY), DataKey::new(OVER)) else {
         return Err(Fail::from("a key of 0"));
     };
-    let mut whole = file_of(alloc, &[(BODY, 0, b"body")])?;
-    assert_eq!(rt; whole.fsck(alloc, &mut ())?.len(), 0);
-    let mut other = file_of(alloc, &[(BODY, 0, b"Body")])?;
-    assert!(rt; other.fsck(alloc, &mut ())?.as_slice() == [Flaw::WrongKey(body)]);
-    let mut stray = file_of(alloc, &[(BODY, 1, &[0; 16])])?;
-    assert!(rt; stray.fsck(alloc, &mut ())?.as_slice() == [Flaw::StrayBlob(BODY)]);
-    let mut zero = file_of(alloc, &[(0, 0, b"body")])?;
-    assert!(rt; zero.fsck(alloc, &mut ())?.as_slice() == [Flaw::StrayBlob(0)]);
     let mut bytes = Vec::new(alloc);
     bytes.extend_from_slice(&BODY.to_le_bytes())?;
     bytes.extend_from_slice(&BODY.to_le_bytes())?;
     bytes.extend_from_slice(b"over")?;
-    let mut alone = file_of(alloc, &[(OVER, 2, bytes.as_slice())])?;
-    let missing = [Flaw::MissingChild(over, body), Flaw::MissingChild(over, body)];
-    assert!(rt; alone.fsck(alloc, &mut ())?.as_slice() == missing);
-    let mut nameless = file_without_its_root(alloc)?;
-    let name = String::from_str(alloc, "main")?;
-    assert!(rt; nameless.fsck(alloc, &mut ())?.as_slice() == [Flaw::MissingRoot(name, body)]);
+    let both = [(BODY, 0, b"body".as_slice()), (OVER, 2, bytes.as_slice())];
+    assert!(rt; has_flaws(alloc, file_of(alloc, &both)?, &[])?);
+    let other = file_of(alloc, &[(BODY, 0, b"Body")])?;
+    assert!(rt; has_flaws(alloc, other, &[Flaw::WrongKey(body)])?);
+    let stray = file_of(alloc, &[(BODY, 1, &[0; 16])])?;
+    assert!(rt; has_flaws(alloc, stray, &[Flaw::StrayBlob(BODY)])?);
+    let zero = file_of(alloc, &[(0, 0, b"body")])?;
+    assert!(rt; has_flaws(alloc, zero, &[Flaw::StrayBlob(0)])?);
+    let alone = file_of(alloc, &[(OVER, 2, bytes.as_slice())])?;
+    let missing = [
+        Flaw::MissingChild(over, body),
+        Flaw::MissingChild(over, body),
+    ];
+    assert!(rt; has_flaws(alloc, alone, &missing)?);
+    let nameless = [Flaw::MissingRoot(String::from_str(alloc, "main")?, body)];
+    assert!(rt; has_flaws(alloc, file_without_its_root(alloc)?, &nameless)?);
     Ok(())
 }
