@@ -12,7 +12,7 @@ ghost use Rattle.pagable_value_spec.specs.{
   Shape.cases,
   declared.error.Error.Error as Refusal,
 };
-ghost use Rattle.std.specs.{Int.w32, Prelude.{IfErr, OnOk, ◌++◌, ◌≡◌}};
+ghost use Rattle.std.specs.{Int.w32, Prelude.{IfErr, IfOk, OnOk, ◌++◌, ◌≡◌}};
 
 use crate::one_node::write_with_refs;
 use pagable_codec::Reader;
@@ -20,6 +20,7 @@ use pagable_flavors::Error;
 use pagable_traits::{
     ArcRef, Env, PagableDeserializer, PagableSerialize, PagableSerializer, Refers,
 };
+use std::alloc::Global;
 
 /// An enum whose values are encoded as the number of their case, and then the fields of the case.
 pub trait HasCases: Sized {
@@ -47,6 +48,26 @@ pub fn list_case<E: Env, V: HasCases, T: Refers<E>>(
 {
     let _same = value;
     fields.list_references(list)
+}
+
+/// Returns the references in the fields of a value's case, in the order in which they are written.
+///
+/// # Errors
+///
+/// - `OutOfMemory` only.
+pub fn references_of_case<E: Env, V: HasCases, T: Refers<E>>(
+    alloc: Global,
+    value: &V,
+    fields: &T,
+) -> Result<Vec<ArcRef>, Error>
+    requires { (V.case_of value.now).meaning ≡ T.Carried.means.meaning fields.now }
+    ensures ok { IfOk result (λ list. list.items
+        ≡ references_in (variant (V.case_of value.now).number (V.case_of value.now).meaning)) }
+    ensures only { IfErr result IsOutOfMemory }
+{
+    let mut list = Vec::new(alloc);
+    list_case::<E, _, _>(value, fields, &mut list)?;
+    Ok(list)
 }
 
 /// Writes the number of a case, a varint. Fails with `OutOfMemory` only.

@@ -1,5 +1,5 @@
-//! Nodes for environments with one value type (`OneNode`) or three (`EitherNode`), and an
-//! environment of records for programs that need no types of their own.
+//! Nodes for environments with one value type (`OneNode`), three (`EitherNode`) or any number (an
+//! enum of one's own), and an environment of records for programs that need no types of their own.
 #![tactic(auto)]
 
 pub mod bytes;
@@ -9,8 +9,8 @@ pub mod node_value;
 pub mod one_node;
 pub mod records;
 
-pub use cases::{HasCases, list_case, read_case, write_case};
+pub use cases::{HasCases, list_case, read_case, references_of_case, write_case};
 pub use either_node::EitherNode;
-pub use node_value::NodeValue;
+pub use node_value::{NodeValue, read_shared};
 pub use one_node::{OneNode, write_with_refs};
 pub use records::{Record, RecordNode, RecordRef, Records};

@@ -1,7 +1,11 @@
 //! The types whose values nodes hold.
 
 ghost use Rattle.pagable_nodes.specs.Encoding.{Encoding, empty};
-ghost use Rattle.pagable_traits.specs.{Clauses.{Reads, Wrote, value as form}, HeldValues.only_references};
+ghost use Rattle.pagable_traits.specs.{
+  Clauses.{Reads, Wrote, value as form},
+  HeldValues.only_references,
+  OwnCauses.reads_memory_or,
+};
 ghost use Rattle.pagable_value_spec.{
   specs.{
     Cursor.HoldsLentValues,
@@ -11,7 +15,7 @@ ghost use Rattle.pagable_value_spec.{
     declared.numbers.ArcRef.ArcRef as Reference,
   },
 };
-ghost use Rattle.std.specs.Prelude.{IfErr, IfOk, OnOk, ◌++◌, ◌≡◌};
+ghost use Rattle.std.specs.{Arc.arc_value, Prelude.{IfErr, IfOk, OnOk, ◌++◌, ◌≡◌}};
 
 use crate::one_node::write_with_refs;
 use pagable_flavors::Error;
@@ -19,6 +23,7 @@ use pagable_traits::{
     ArcRef, Env, PagableDeserialize, PagableDeserializer, PagableSerializer, references_of,
 };
 use std::alloc::Global;
+use std::sync::Arc;
 
 /// A type whose values a node holds: `OneNode` and `EitherNode` require the trait. A type that
 /// describes its encoding by one `Encoding`, as `Record` does, implements the three calls by
@@ -65,6 +70,25 @@ pub trait NodeValue<E: Env>: Sized {
         ensures reads { Reads E.Env D.PagableDeserializer encoding.reads.are encoding.means.of
             (λ c. read_shape c encoding.shape) deserializer.old deserializer.new result }
         ensures holds { IfOk result (HoldsLentValues (D.input_state deserializer.old) beside) };
+}
+
+/// Reads a value of this type, and shares it, as the node's `read` does for each of its types.
+///
+/// # Errors
+///
+/// - as `NodeValue::read`.
+/// - `OutOfMemory` if the value can't be shared.
+pub fn read_shared<E: Env, T: NodeValue<E> + Drop, D: PagableDeserializer<E>>(
+    alloc: Global,
+    deserializer: &mut D,
+) -> Result<Arc<T>, Error>
+    ensures reads { Reads E.Env D.PagableDeserializer (reads_memory_or T.encoding.reads).are
+        (λ a. T.encoding.means.of (arc_value a)) (λ c. read_shape c T.encoding.shape) deserializer.old
+        deserializer.new result }
+    ensures holds { IfOk result (λ a. HoldsLentValues (D.input_state deserializer.old) T.beside (arc_value a)) }
+{
+    let value = <T as NodeValue<E>>::read(alloc, deserializer)?;
+    Ok(Arc::new(alloc, value)?)
 }
 
 /// `()` is the third type of an environment with two.

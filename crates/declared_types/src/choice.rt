@@ -1,0 +1,70 @@
+//! One of three cases.
+
+ghost use Rattle.declared_types.specs.Types.{choice_case, choice_cases, choice_encoding};
+ghost use Rattle.pagable_traits.specs.HeldValues.{only_references};
+
+use crate::part::PartRef;
+use pagable_flavors::Error;
+use pagable_nodes::{HasCases, NodeValue, read_case, references_of_case, write_case};
+use pagable_traits::{
+    ArcRef, Env, PagableDeserialize, PagableDeserializer, PagableSerializer, RawRef,
+};
+use std::alloc::Global;
+
+/// A loose reference to a choice, whose type number is 1.
+pub type ChoiceRef = RawRef<4>;
+
+/// One of three cases.
+#[derive(Drop)]
+pub enum Choice {
+    Nothing,
+    Count(u64),
+    Named(String, PartRef),
+}
+
+impl HasCases for Choice {
+    ghost cases = { choice_cases };
+
+    ghost case_of = { choice_case };
+}
+
+impl<E: Env> NodeValue<E> for Choice {
+    ghost encoding = { choice_encoding };
+
+    ghost beside = { only_references };
+
+    fn list_refs(&self, alloc: Global) -> Result<Vec<ArcRef>, Error> {
+        match self {
+            Choice::Nothing => references_of_case::<E, _, _>(alloc, self, &()),
+            Choice::Count(first) => references_of_case::<E, _, _>(alloc, self, first),
+            Choice::Named(first, second) => {
+                references_of_case::<E, _, _>(alloc, self, &(first, second))
+            }
+        }
+    }
+
+    fn write<S: PagableSerializer<E>>(&self, serializer: &mut S) -> Result<(), Error> {
+        match self {
+            Choice::Nothing => write_case(self, 0, &(), serializer),
+            Choice::Count(first) => write_case(self, 1, first, serializer),
+            Choice::Named(first, second) => write_case(self, 2, &(first, second), serializer),
+        }
+    }
+
+    #[tactic(auto, using(pagable_nodes::proofs::Enums::enums))]
+    fn read<D: PagableDeserializer<E>>(alloc: Global, deserializer: &mut D) -> Result<Self, Error> {
+        match read_case(deserializer)? {
+            0 => Ok(Choice::Nothing),
+            1 => {
+                let first = PagableDeserialize::<E>::pagable_deserialize(alloc, deserializer)?;
+                Ok(Choice::Count(first))
+            }
+            2 => {
+                let fields = PagableDeserialize::<E>::pagable_deserialize(alloc, deserializer)?;
+                let (first, second) = fields;
+                Ok(Choice::Named(first, second))
+            }
+            _ => Err(Error::UnknownTag),
+        }
+    }
+}
