@@ -51,7 +51,7 @@ impl<E: Env> NodeValue<E> for Choice {
         }
     }
 
-    #[tactic(auto, using(pagable_nodes::proofs::Enums::enums))]
+    #[tactic(auto, unfolding(pagable_value_spec::specs::Reading::read, pagable_value_spec::specs::Reading::read_with), using(pagable_nodes::proofs::Enums::enums))]
     fn read<D: PagableDeserializer<E>>(alloc: Global, deserializer: &mut D) -> Result<Self, Error> {
         match read_case(deserializer)? {
             0 => Ok(Choice::Nothing),

@@ -43,8 +43,9 @@ pub enum StoreNode {
 impl NodeSet<Store> for StoreNode {
     ghost use Rattle.declared_types.specs.Nodes.{store_case, store_types};
     ghost use Rattle.pagable_nodes.specs.{
-      Cases.{encoding_of, shape_of},
+      Cases.shape_of,
       NodeCases.{case_has_meaning, case_refers, typed_has_shape, typed_reads, typed_shape},
+      NodeCases.typed_writes,
     };
     ghost use Rattle.pagable_traits.specs.HeldValues.{only_references};
     ghost use Rattle.pagable_value_spec.specs.References.{references_in};
@@ -61,11 +62,11 @@ impl NodeSet<Store> for StoreNode {
 
     ghost beside = { only_references };
 
-    ghost write_causes = { λ t. (encoding_of store_types t).writes.are };
+    ghost write_causes = { λ t. (typed_writes store_types t).are };
 
     ghost read_causes = { λ t. (typed_reads store_types t).are };
 
-    ghost write_causes_may_refuse = { λ t. (encoding_of store_types t).writes.may };
+    ghost write_causes_may_refuse = { λ t. (typed_writes store_types t).may };
 
     ghost read_causes_are_own = { λ t. (typed_reads store_types t).own };
 

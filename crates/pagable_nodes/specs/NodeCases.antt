@@ -1,7 +1,7 @@
 -- Nodes of any number of types: an enum with a case for each type, which holds the type's values. `Cases` has the
 -- encodings of the types in the order of their numbers, and the case of a node is its type's number and its value.
-use Rattle.pagable_nodes.specs.Cases.{CaseOf, Cases, FieldsOf, case, encoding_of, is_case, no_more, shape_of}
-use Rattle.pagable_traits.specs.OwnCauses.{ReadCauses, reads_memory_or}
+use Rattle.pagable_nodes.specs.Cases.{CaseOf, Cases, FieldsOf, case, is_case, no_more, shape_of}
+use Rattle.pagable_traits.specs.OwnCauses.{ReadCauses, WriteCauses, reads_memory_or, reads_never, writes_never}
 use Rattle.pagable_value_spec.specs.{
   Cursor.SomeMeaning,
   Meaning.Meaning,
@@ -18,9 +18,17 @@ typed_shape no_more n = None
 typed_shape (case a more) zero = Some a.shape
 typed_shape (case a more) (suc n) = typed_shape more n
 
--- the errors of reading a node of a type other than faults of the input and of references
+-- all errors of writing a type's values, and the errors of reading a node of a type other than faults of the input and of
+-- references
+abbrev pub typed_writes : Cases → ℕ → WriteCauses
+typed_writes no_more n = writes_never
+typed_writes (case a more) zero = a.writes
+typed_writes (case a more) (suc n) = typed_writes more n
+
 abbrev pub typed_reads : Cases → ℕ → ReadCauses
-typed_reads all n = reads_memory_or (encoding_of all n).reads
+typed_reads no_more n = reads_never
+typed_reads (case a more) zero = reads_memory_or a.reads
+typed_reads (case a more) (suc n) = typed_reads more n
 
 -- the fields of the wanted case, if a value is of this case: of a node, the value of the wanted type
 abbrev pub fields_at : (all : Cases) (wanted number : ℕ) → FieldsOf all number → Option (FieldsOf all wanted)
