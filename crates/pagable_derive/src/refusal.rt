@@ -1,0 +1,86 @@
+//! Why a declaration is refused.
+
+use std::alloc::AllocError;
+use thiserror::Error;
+
+/// Says what is wrong in a line of a declaration.
+#[derive(Debug, Drop, Error)]
+pub enum Reason {
+    #[error("the file isn't UTF-8")]
+    NotUtf8,
+    #[error("no declaration has the character {0:?}")]
+    UnknownCharacter(char),
+    #[error("`{0}` isn't closed")]
+    NotClosed(char),
+    #[error("`{0}` closes nothing")]
+    ClosesNothing(char),
+    #[error("`{open}` is closed by `{close}`")]
+    ClosedByOther { open: char, close: char },
+    #[error("more than {0} brackets stand in each other")]
+    TooDeep(usize),
+    #[error("a doc comment stands before a type, a field or a case")]
+    MisplacedDoc,
+    #[error("expected {0}")]
+    Expected(&'static str),
+    #[error("expected `env NAME;` before the types")]
+    NoEnvironment,
+    #[error("a declaration has one environment")]
+    SecondEnvironment,
+    #[error("a declaration has a type")]
+    NoType,
+    #[error("a declaration has at most {0} types")]
+    TooManyTypes(usize),
+    #[error("`{0}` has no field")]
+    NoField(String),
+    #[error("`{name}` has more than {limit} {what}")]
+    TooMany {
+        name: String,
+        limit: usize,
+        what: &'static str,
+    },
+    #[error("`{0}` is a keyword")]
+    Keyword(String),
+    #[error("the printed text has another `{0}`")]
+    Reserved(String),
+    #[error("`{0}` isn't in upper camel case")]
+    NotUpperCamel(String),
+    #[error("`{0}` isn't in snake case")]
+    NotSnake(String),
+    #[error("`{0}` is declared twice")]
+    TypeTwice(String),
+    #[error("two types have the module `{0}`")]
+    ModuleTwice(String),
+    #[error("two fields are called `{0}`")]
+    FieldTwice(String),
+    #[error("two cases are called `{0}`")]
+    CaseTwice(String),
+    #[error("no carried type is called `{0}`")]
+    UnknownType(String),
+    #[error("no type of this declaration is called `{0}`")]
+    NotDeclared(String),
+    #[error("`{0}` is held by a reference: `Loose<{0}>`, `Pinned<{0}>` or `Shared<{0}>`")]
+    HeldByValue(String),
+    #[error("`{name}` takes {count} types")]
+    ArgumentCount { name: &'static str, count: usize },
+    #[error("a tuple has two to five parts")]
+    TuplePartCount,
+    #[error("a length is a number below {0}")]
+    BadLength(u64),
+    #[error("a key is a number, a `bool`, a `char` or a `String`")]
+    NotKey,
+}
+
+/// Says why a declaration can't be read.
+#[derive(Debug, Drop, Error)]
+pub enum Refusal {
+    /// What is wrong, and in which line, from 1.
+    #[error("{line}: {reason}")]
+    Line { line: usize, reason: Reason },
+    #[error(transparent)]
+    Memory(#[from(alloc)] AllocError),
+}
+
+/// Refuses a line.
+pub fn refuse<T>(line: usize, reason: Reason) -> Result<T, Refusal> {
+    Err(Refusal::Line { line, reason })
+}
