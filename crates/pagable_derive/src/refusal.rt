@@ -14,8 +14,8 @@ pub enum Reason {
     NotClosed(char),
     #[error("`{0}` closes nothing")]
     ClosesNothing(char),
-    #[error("`{open}` is closed by `{close}`")]
-    ClosedByOther { open: char, close: char },
+    #[error("`{0}` is closed by `{1}`")]
+    ClosedByOther(char, char),
     #[error("more than {0} brackets stand in each other")]
     TooDeep(usize),
     #[error("a doc comment stands before a type, a field or a case")]
@@ -30,16 +30,16 @@ pub enum Reason {
     NoType,
     #[error("a declaration has at most {0} types")]
     TooManyTypes(usize),
-    #[error("`{0}` has no field")]
-    NoField(String),
-    #[error("`{name}` has more than {limit} {what}")]
-    TooMany {
-        name: String,
-        limit: usize,
-        what: &'static str,
-    },
+    #[error("`{0}` is empty")]
+    Empty(String),
+    #[error("a struct or a case has at most {0} fields")]
+    TooManyFields(usize),
+    #[error("an enum has at most {0} cases")]
+    TooManyCases(usize),
     #[error("`{0}` is a keyword")]
     Keyword(String),
+    #[error("`{0}` is a word of specs")]
+    SpecWord(String),
     #[error("the printed text has another `{0}`")]
     Reserved(String),
     #[error("`{0}` isn't in upper camel case")]
@@ -48,7 +48,7 @@ pub enum Reason {
     NotSnake(String),
     #[error("`{0}` is declared twice")]
     TypeTwice(String),
-    #[error("two types have the module `{0}`")]
+    #[error("two modules are called `{0}`")]
     ModuleTwice(String),
     #[error("two fields are called `{0}`")]
     FieldTwice(String),
@@ -60,8 +60,8 @@ pub enum Reason {
     NotDeclared(String),
     #[error("`{0}` is held by a reference: `Loose<{0}>`, `Pinned<{0}>` or `Shared<{0}>`")]
     HeldByValue(String),
-    #[error("`{name}` takes {count} types")]
-    ArgumentCount { name: &'static str, count: usize },
+    #[error("`{0}` takes {1} types")]
+    ArgumentCount(&'static str, usize),
     #[error("a tuple has two to five parts")]
     TuplePartCount,
     #[error("a length is a number below {0}")]

@@ -136,7 +136,7 @@ impl Grouper {
         let group = mem::replace(&mut self.inner, outer);
         let (begin, open) = (group.line, group.bracket);
         if closing(open) != close {
-            return refuse(line, Reason::ClosedByOther { open, close });
+            return refuse(line, Reason::ClosedByOther(open, close));
         }
         let parts = group.end(self.alloc)?;
         self.inner.push(Tree::Group(begin, open, parts))?;
@@ -152,7 +152,10 @@ impl Grouper {
         if is_item || sign != ',' {
             self.inner.push(Tree::Sign(line, sign))?;
         } else if self.inner.last.trees.is_empty() {
-            return refuse(line, Reason::Expected("a field, a case or a type before `,`"));
+            return refuse(
+                line,
+                Reason::Expected("a field, a case or a type before `,`"),
+            );
         }
         if sign == if is_item { ';' } else { ',' } {
             self.inner.end_part(self.alloc)?;
@@ -192,7 +195,8 @@ pub fn group(alloc: Global, tokens: Vec<Token>) -> Result<Vec<Part>, Refusal> {
     }
     let Grouper { outer, inner, .. } = grouper;
     if !outer.is_empty() {
-        return refuse(inner.line, Reason::NotClosed(inner.bracket));
+        let bracket = inner.bracket;
+        return refuse(inner.line, Reason::NotClosed(bracket));
     }
     inner.end(alloc)
 }
