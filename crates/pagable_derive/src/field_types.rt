@@ -18,7 +18,7 @@ const LONGEST: u64 = 1 << 32;
 pub type TypeNumbers = BTreeMap<String, u32>;
 
 /// Returns what a word says of a reference, if it does.
-fn mode(word: &str) -> Option<Mode> {
+fn mode_of(word: &str) -> Option<Mode> {
     match word {
         "Loose" => Some(Mode::Loose),
         "Pinned" => Some(Mode::Pinned),
@@ -28,7 +28,7 @@ fn mode(word: &str) -> Option<Mode> {
 }
 
 /// Reads a length.
-fn length(cursor: &mut Cursor<'_>) -> Result<u64, Refusal> {
+fn read_length(cursor: &mut Cursor<'_>) -> Result<u64, Refusal> {
     let word = cursor.word("a length")?;
     match word.parse::<u64>() {
         Ok(length) if length < LONGEST => Ok(length),
@@ -37,7 +37,7 @@ fn length(cursor: &mut Cursor<'_>) -> Result<u64, Refusal> {
 }
 
 /// Reads the rest of a reference: the name of a type of the declaration.
-fn reference(
+fn read_reference(
     alloc: Global,
     mode: Mode,
     parts: &[Part],
@@ -108,7 +108,7 @@ impl TypeReader<'_> {
         let mut cursor = Cursor::new(part);
         let item = self.field_type(&mut cursor, levels)?;
         cursor.sign(';', "`;` and a length")?;
-        let length = length(&mut cursor)?;
+        let length = read_length(&mut cursor)?;
         cursor.end("`]`")?;
         Ok(FieldType {
             head: Head::Array(length),
@@ -126,7 +126,7 @@ impl TypeReader<'_> {
         let item = self.field_type(&mut cursor, levels)?;
         cursor.end("`,`")?;
         let mut cursor = Cursor::new(length_part);
-        let length = length(&mut cursor)?;
+        let length = read_length(&mut cursor)?;
         cursor.end("`>`")?;
         Ok(FieldType {
             head: Head::SmallVec(length),
@@ -156,8 +156,8 @@ impl TypeReader<'_> {
         line: usize,
         levels: usize,
     ) -> Result<FieldType, Refusal> {
-        if let Some(mode) = mode(word) {
-            let reference = reference(self.alloc, mode, parts, line, self.types)?;
+        if let Some(mode) = mode_of(word) {
+            let reference = read_reference(self.alloc, mode, parts, line, self.types)?;
             return Ok(FieldType {
                 head: Head::Reference(reference),
                 arguments: Vec::new(self.alloc),

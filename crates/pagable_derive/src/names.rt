@@ -222,3 +222,15 @@ impl PrintedNames {
         self.add_module(alloc, line, name)
     }
 }
+
+/// Returns whether a crate may have a name: lower-case letters, digits and underscores, no keyword, and no library
+/// that printed crates use.
+pub fn is_crate_name(name: &str) -> bool {
+    let is_word = |letter: char| letter.is_ascii_lowercase()
+        || letter.is_ascii_digit()
+        || letter == '_';
+    name.starts_with(|letter: char| letter.is_ascii_lowercase())
+        && name.chars().all(is_word)
+        && !KEYWORDS.contains(&name)
+        && !MODULES.contains(&name)
+}

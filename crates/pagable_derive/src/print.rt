@@ -11,6 +11,7 @@ pub mod structs;
 
 use crate::declared::{Declaration, DeclaredType};
 use crate::names::snake;
+use crate::print::layout::WIDTH;
 use std::alloc::{AllocError, Global};
 use std::collections::BTreeMap;
 
@@ -156,4 +157,31 @@ pub fn print(
     let text = specs::types(alloc, crate_name, types, names)?;
     printer.add("specs", "Types", ".antt", text)?;
     Ok(printer.files)
+}
+
+/// Returns the number of the first line of code that is too long, from 1, if there is one. Comments and the imports
+/// of clauses may have any length.
+fn long_line_in(text: &str) -> Option<usize> {
+    let mut number: usize = 0;
+    for line in text.lines() {
+        number = number.saturating_add(1);
+        let start = line.trim_start();
+        let is_code = !start.starts_with("//") && !start.starts_with("ghost use ");
+        if is_code && line.chars().count() > WIDTH {
+            return Some(number);
+        }
+    }
+    None
+}
+
+/// Finds a line of code that is too long, since names in it are: the path of its file, and its number, from 1.
+pub fn long_line(files: &[PrintedFile]) -> Option<(&str, usize)> {
+    for file in files {
+        if file.path.ends_with(".rt")
+            && let Some(line) = long_line_in(file.text.as_str())
+        {
+            return Some((file.path.as_str(), line));
+        }
+    }
+    None
 }

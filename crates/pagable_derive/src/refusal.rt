@@ -58,8 +58,10 @@ pub enum Reason {
     UnknownType(String),
     #[error("no type of this declaration is called `{0}`")]
     NotDeclared(String),
-    #[error("`{0}` is held by a reference: `Loose<{0}>`, `Pinned<{0}>` or `Shared<{0}>`")]
+    #[error("`{0}` stands in a reference alone: `Loose<{0}>`")]
     HeldByValue(String),
+    #[error("a reference is `Loose`: no other is printed yet")]
+    NotLoose,
     #[error("`{0}` takes {1} types")]
     ArgumentCount(&'static str, usize),
     #[error("a tuple has two to five parts")]

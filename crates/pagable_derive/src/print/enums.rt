@@ -94,6 +94,15 @@ fn write_enum(out: &mut String, name: &str, cases: &[Case]) -> Result<(), AllocE
     out.push_str("}\n")
 }
 
+/// Adds copies of texts.
+fn push_all(list: &mut Vec<String>, texts: &[&str]) -> Result<(), AllocError> {
+    for text in texts {
+        let text = String::from_str(*list.allocator(), text)?;
+        list.push(text)?;
+    }
+    Ok(())
+}
+
 /// A call on the fields of a case: what stands before them in its brackets, and what behind.
 #[derive(Clone, Copy)]
 struct Call<'a> {
@@ -106,9 +115,9 @@ impl Call<'_> {
     /// Returns the arguments of the call on a value.
     fn arguments(self, alloc: Global, value: &str) -> Result<Vec<String>, AllocError> {
         let mut arguments = Vec::new(alloc);
-        for argument in self.first.iter().chain([value].iter()).chain(self.last) {
-            arguments.push(String::from_str(alloc, argument)?)?;
-        }
+        push_all(&mut arguments, self.first)?;
+        push_all(&mut arguments, &[value])?;
+        push_all(&mut arguments, self.last)?;
         Ok(arguments)
     }
 

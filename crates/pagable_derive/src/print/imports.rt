@@ -1,10 +1,8 @@
 //! The imports of a printed file.
 
+use crate::print::layout::WIDTH;
 use std::alloc::{AllocError, Global};
 use std::collections::{BTreeMap, BTreeSet};
-
-/// The most characters of a line.
-const WIDTH: usize = 100;
 
 /// The names that a file imports, by the paths of their modules.
 #[derive(Drop)]

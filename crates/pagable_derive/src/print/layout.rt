@@ -3,7 +3,7 @@
 use std::alloc::{AllocError, Global};
 
 /// The most characters of a line.
-const WIDTH: usize = 100;
+pub const WIDTH: usize = 100;
 
 /// The most characters between the brackets of a tuple or a call in one line.
 pub const CALL_WIDTH: usize = 60;

@@ -4,7 +4,7 @@ use crate::declared::{Body, Case, DeclaredType, FieldType, Fields, Head, Style};
 use crate::names::snake;
 use crate::print::field_types::add_rust_imports;
 use crate::print::imports::Imports;
-use crate::print::layout::{Place, grouped, joined, write_indent};
+use crate::print::layout::{Place, WIDTH, grouped, joined, write_indent};
 use crate::print::{MARK, enums, structs};
 use std::alloc::{AllocError, Global};
 
@@ -65,7 +65,7 @@ fn write_pattern(out: &mut String, indent: usize, names: &[String]) -> Result<()
     let inner = joined(alloc, grouped(alloc, names)?.as_slice())?;
     let line = format!(in alloc; "let ({inner}) =")?;
     let width = line.chars().count().saturating_add(indent);
-    if width <= 100 && width > 100 - " fields;".len() {
+    if width <= WIDTH && width > WIDTH - 8 {
         write_indent(out, indent)?;
         writeln!(out, "{line}")?;
         write_indent(out, indent.saturating_add(4))?;
