@@ -68,6 +68,8 @@ FAULTS = [
     ("pub struct A {\n pub a: u8<u8> }", 3, "`u8` takes 0 types"),
     ("pub struct A {\n pub a: (u8) }", 3, "a tuple has two to five parts"),
     ("pub struct A {\n pub a: (u8, u8, u8, u8, u8, u8) }", 3, "a tuple has two to five parts"),
+    ("pub struct A {\n pub a: (Vec<Duration>, Option<BTreeSet<String>>, BTreeMap<u128, String>, u8) }", 3,
+     "the types of a tuple are longer than 60 characters"),
     ("pub struct A {\n pub a: [u8; 4294967296] }", 3, "a length is a number below 4294967296"),
     ("pub struct A {\n pub a: [u8; many] }", 3, "a length is a number below 4294967296"),
     ("pub struct A {\n pub a: [u8] }", 3, "expected `;` and a length"),

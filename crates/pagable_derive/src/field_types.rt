@@ -3,6 +3,8 @@
 use crate::carried::carried;
 use crate::cursor::Cursor;
 use crate::declared::{FieldType, Head, Mode, Reference};
+use crate::print::field_types::rust_type;
+use crate::print::layout::{CALL_WIDTH, joined};
 use crate::refusal::{Reason, Refusal, refuse};
 use crate::trees::{DEEPEST, Part};
 use std::alloc::{AllocError, Global};
@@ -44,6 +46,9 @@ fn read_reference(
     line: usize,
     types: &TypeNumbers,
 ) -> Result<Reference, Refusal> {
+    if mode != Mode::Loose {
+        return refuse(line, Reason::NotLoose);
+    }
     let [part] = parts else {
         return refuse(
             line,
@@ -76,6 +81,16 @@ fn refuse_word<T>(
         return refuse(line, Reason::HeldByValue(name));
     }
     refuse(line, Reason::UnknownType(name))
+}
+
+/// Returns whether the types of a tuple have no room in one line.
+fn is_wide(alloc: Global, arguments: &[FieldType]) -> Result<bool, AllocError> {
+    let mut texts = Vec::new(alloc);
+    for argument in arguments {
+        texts.push(rust_type(argument, alloc)?)?;
+    }
+    let text = joined(alloc, texts.as_slice())?;
+    Ok(text.chars().count() > CALL_WIDTH)
 }
 
 /// Reads types.
@@ -140,6 +155,9 @@ impl TypeReader<'_> {
         let arguments = self.list(parts, levels)?;
         if arguments.len() < 2 || arguments.len() > WIDEST_TUPLE {
             return refuse(line, Reason::TuplePartCount);
+        }
+        if is_wide(self.alloc, arguments.as_slice())? {
+            return refuse(line, Reason::WideTuple(CALL_WIDTH));
         }
         Ok(FieldType {
             head: Head::Tuple,
@@ -216,7 +234,8 @@ fn is_key(of: &FieldType) -> bool {
 /// - `Expected` if something else than a type is next, or a part of it is missing or too much.
 /// - `UnknownType`, `NotDeclared`, `HeldByValue` for a name that isn't one of a carried type, or of a type of the
 ///   declaration in a reference.
-/// - `ArgumentCount`, `TuplePartCount`, `BadLength` for too many or too few types, and for other lengths.
+/// - `ArgumentCount`, `TuplePartCount`, `WideTuple`, `BadLength` for too many or too few types, or too long ones, and
+///   for other lengths.
 /// - `NotKey` for the key of a map or the item of a set that has no order here.
 pub fn read_field_type(
     alloc: Global,

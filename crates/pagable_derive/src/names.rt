@@ -15,21 +15,29 @@ const KEYWORDS: [&str; 53] = [
 ];
 
 /// The words of specs that a field can't have as its name.
-const SPEC_WORDS: [&str; 14] = [
+const SPEC_WORDS: [&str; 22] = [
     "abbrev",
-    "by",
+    "axiom",
+    "coe",
+    "com",
     "data",
+    "deriving",
     "elim",
+    "fcoe",
+    "hcom",
+    "infix",
+    "infixl",
+    "infixr",
     "module",
+    "mutual",
     "open",
+    "package",
     "record",
-    "rewrite",
-    "rw",
     "ruleset",
-    "syntax",
-    "tactic",
+    "tcoe",
+    "unfold",
+    "unfoldable",
     "unfolding",
-    "with",
 ];
 
 /// The types and traits that printed modules import beside carried types.

@@ -66,6 +66,8 @@ pub enum Reason {
     ArgumentCount(&'static str, usize),
     #[error("a tuple has two to five parts")]
     TuplePartCount,
+    #[error("the types of a tuple are longer than {0} characters")]
+    WideTuple(usize),
     #[error("a length is a number below {0}")]
     BadLength(u64),
     #[error("a key is a number, a `bool`, a `char` or a `String`")]

@@ -292,9 +292,8 @@ impl OfNode<{name}> for {of} {{
 
 "
         )?;
-        let value = format!(in self.alloc; "value: Arc<{of}>")?;
         let after = format!(in self.alloc; ") -> {name}Node")?;
-        self.write_signature(out, "fn into_node(", &[value.as_str()], after.as_str())?;
+        self.write_signature(out, "fn into_node(", &["value: Arc<Self>"], after.as_str())?;
         write!(
             out,
             "        ensures {{ {snake}_held {number} result ≡ Some (arc_value value) }}
@@ -305,12 +304,12 @@ impl OfNode<{name}> for {of} {{
 "
         )?;
         let node = format!(in self.alloc; "node: &{name}Node")?;
-        let after = format!(in self.alloc; ") -> Result<Option<Arc<{of}>>, Error> {{")?;
+        let after = ") -> Result<Option<Arc<Self>>, Error> {";
         self.write_signature(
             out,
             "fn from_node(",
             &["alloc: Global", node.as_str()],
-            after.as_str(),
+            after,
         )?;
         write!(
             out,

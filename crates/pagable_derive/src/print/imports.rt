@@ -1,6 +1,6 @@
 //! The imports of a printed file.
 
-use crate::print::layout::WIDTH;
+use crate::print::layout::{WIDTH, joined, write_filled};
 use std::alloc::{AllocError, Global};
 use std::collections::{BTreeMap, BTreeSet};
 
@@ -45,13 +45,15 @@ impl Imports {
     /// Writes a line of Rust for each module, or several if one would be too long.
     pub fn write_uses(&self, out: &mut String) -> Result<(), AllocError> {
         for (path, names) in &self.paths {
-            let list = join(self.alloc, names)?;
+            let list = joined(self.alloc, listed(self.alloc, names)?.as_slice())?;
             if names.len() == 1 {
                 writeln!(out, "use {path}::{list};")?;
             } else if path.chars().count().saturating_add(list.chars().count()) <= WIDTH - 9 {
                 writeln!(out, "use {path}::{{{list}}};")?;
             } else {
-                write_filled(out, path.as_str(), names)?;
+                writeln!(out, "use {path}::{{")?;
+                write_filled(out, 4, listed(self.alloc, names)?.as_slice())?;
+                out.push_str("};\n")?;
             }
         }
         Ok(())
@@ -65,37 +67,18 @@ impl Imports {
         after: &str,
     ) -> Result<(), AllocError> {
         for (path, names) in &self.paths {
-            let list = join(self.alloc, names)?;
+            let list = joined(self.alloc, listed(self.alloc, names)?.as_slice())?;
             writeln!(out, "{before}use Rattle.{path}.{{{list}}}{after}")?;
         }
         Ok(())
     }
 }
 
-/// Joins names by commas.
-fn join(alloc: Global, names: &BTreeSet<String>) -> Result<String, AllocError> {
-    let mut list = String::new(alloc);
+/// Returns the names of a set.
+fn listed(alloc: Global, names: &BTreeSet<String>) -> Result<Vec<String>, AllocError> {
+    let mut list = Vec::new(alloc);
     for name in names {
-        if !list.is_empty() {
-            list.push_str(", ")?;
-        }
-        list.push_str(name.as_str())?;
+        list.push(name.clone()?)?;
     }
     Ok(list)
-}
-
-/// Writes an import with as many names in each line as have room.
-fn write_filled(out: &mut String, path: &str, names: &BTreeSet<String>) -> Result<(), AllocError> {
-    writeln!(out, "use {path}::{{")?;
-    let mut line = String::from_str(*out.allocator(), "   ")?;
-    for name in names {
-        let width = line.chars().count().saturating_add(name.chars().count());
-        if width > WIDTH - 2 {
-            writeln!(out, "{line}")?;
-            line.clear();
-            line.push_str("   ")?;
-        }
-        write!(line, " {name},")?;
-    }
-    writeln!(out, "{line}\n}};")
 }

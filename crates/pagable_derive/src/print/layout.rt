@@ -50,10 +50,50 @@ pub fn joined(alloc: Global, items: &[String]) -> Result<String, AllocError> {
     Ok(text)
 }
 
+/// Returns whether an item is a short name, a field or a number, maybe borrowed.
+fn is_short(item: &str) -> bool {
+    width(item) <= 10 && !item.contains(' ') && !item.contains('(')
+}
+
+/// Writes each item in a line of its own.
+fn write_lines(out: &mut String, indent: usize, items: &[String]) -> Result<(), AllocError> {
+    for item in items {
+        write_indent(out, indent)?;
+        writeln!(out, "{item},")?;
+    }
+    Ok(())
+}
+
+/// Writes as many items in each line as have room.
+pub fn write_filled(out: &mut String, indent: usize, items: &[String]) -> Result<(), AllocError> {
+    let mut line = String::new(*out.allocator());
+    for item in items {
+        let wide = indent
+            .saturating_add(width(line.as_str()))
+            .saturating_add(width(item));
+        if !line.is_empty() && wide > WIDTH - 2 {
+            write_indent(out, indent)?;
+            writeln!(out, "{line}")?;
+            line.clear();
+        }
+        if !line.is_empty() {
+            line.push(' ')?;
+        }
+        write!(line, "{item},")?;
+    }
+    write_indent(out, indent)?;
+    writeln!(out, "{line}")
+}
+
 impl Place<'_> {
-    /// Returns whether a text has room in one line between the brackets.
+    /// Returns whether a text has room in one line between the brackets. A brace behind an arrow that alone has none
+    /// stays there: `long_line` then finds the line.
     fn has_room_for(self, inner: &str) -> bool {
-        let ends = width(self.before).saturating_add(width(self.after));
+        let after = self.after.strip_suffix("=> {").unwrap_or(self.after);
+        let arrow = if after.len() < self.after.len() { 2 } else { 0 };
+        let ends = width(self.before)
+            .saturating_add(width(after))
+            .saturating_add(arrow);
         let all = self
             .indent
             .saturating_add(ends)
@@ -61,7 +101,8 @@ impl Place<'_> {
         width(inner) <= self.widest && all <= WIDTH
     }
 
-    /// Writes a list in one line, if there is room, or else with each item in a line of its own. Ends the line.
+    /// Writes a list in one line, if there is room, or else with each item in a line of its own; but short names in a
+    /// call or a tuple fill lines. Ends the line.
     pub fn write_list(self, out: &mut String, items: &[String]) -> Result<(), AllocError> {
         let inner = joined(*out.allocator(), items)?;
         write_indent(out, self.indent)?;
@@ -69,9 +110,11 @@ impl Place<'_> {
             return writeln!(out, "{}{inner}{}", self.before, self.after);
         }
         writeln!(out, "{}", self.before.trim_end())?;
-        for item in items {
-            write_indent(out, self.indent.saturating_add(4))?;
-            writeln!(out, "{item},")?;
+        let indent = self.indent.saturating_add(4);
+        if self.widest == CALL_WIDTH && items.iter().all(|item| is_short(item.as_str())) {
+            write_filled(out, indent, items)?;
+        } else {
+            write_lines(out, indent, items)?;
         }
         write_indent(out, self.indent)?;
         writeln!(out, "{}", self.after.trim_start())

@@ -37,15 +37,23 @@ const ORDINALS: [&str; 25] = [
     "twenty_fifth",
 ];
 
+/// Returns the names of as many places as there are fields.
+pub fn ordinals(alloc: Global, fields: &Fields) -> Result<Vec<String>, AllocError> {
+    let mut names = Vec::new(alloc);
+    for (_field, ordinal) in fields.list.iter().zip(ORDINALS) {
+        names.push(String::from_str(alloc, ordinal)?)?;
+    }
+    Ok(names)
+}
+
 /// Returns the names to which fields are bound: their own, or their places'.
 pub fn bound_names(alloc: Global, fields: &Fields) -> Result<Vec<String>, AllocError> {
+    if fields.style != Style::Named {
+        return ordinals(alloc, fields);
+    }
     let mut names = Vec::new(alloc);
-    for (field, ordinal) in fields.list.iter().zip(ORDINALS) {
-        let name = match fields.style {
-            Style::Named => field.name.as_str(),
-            _ => ordinal,
-        };
-        names.push(String::from_str(alloc, name)?)?;
+    for field in &fields.list {
+        names.push(field.name.clone()?)?;
     }
     Ok(names)
 }

@@ -4,14 +4,9 @@ use crate::declared::{Body, Case, DeclaredType, Fields};
 use crate::print::field_types::Encodings;
 use crate::print::imports::Imports;
 use crate::print::layout::{grouped, joined};
+use crate::print::modules::ordinals;
 use crate::print::{MARK, TypeNames};
 use std::alloc::{AllocError, Global};
-
-/// What specs call the fields of a case.
-const LETTERS: [&str; 25] = [
-    "a", "b", "c", "d", "e", "f", "g", "h", "i", "j", "k", "l", "m", "n", "o", "p", "q", "r", "s",
-    "t", "u", "v", "w", "y", "z",
-];
 
 /// Writes the encoding of a struct: of the tuple of its fields.
 fn write_struct(
@@ -76,21 +71,18 @@ fn write_case(
     case: &Case,
 ) -> Result<(), AllocError> {
     let alloc = *out.allocator();
-    let mut letters = Vec::new(alloc);
-    for (_field, letter) in case.fields.list.iter().zip(LETTERS) {
-        letters.push(String::from_str(alloc, letter)?)?;
-    }
-    let inner = joined(alloc, grouped(alloc, letters.as_slice())?.as_slice())?;
-    let value = match letters.len() {
+    let bound = ordinals(alloc, &case.fields)?;
+    let inner = joined(alloc, grouped(alloc, bound.as_slice())?.as_slice())?;
+    let value = match bound.len() {
         0 => String::from_str(alloc, "tt")?,
         1 => inner,
         _ => format!(in alloc; "({inner})")?,
     };
     let mut pattern = format!(in alloc; "{}_variants.{}", names.snake, case.name)?;
-    for letter in &letters {
-        write!(pattern, " {letter}")?;
+    for name in &bound {
+        write!(pattern, " {name}")?;
     }
-    if !letters.is_empty() {
+    if !bound.is_empty() {
         pattern = format!(in alloc; "({pattern})")?;
     }
     let snake = names.snake.as_str();
@@ -202,7 +194,7 @@ fn node_imports(
     imports.add(path.as_str(), node)?;
     let words = ["CaseOf", "Cases", "FieldsOf", "case", "in_case", "no_more"];
     imports.add_all("pagable_nodes.specs.Cases", &words)?;
-    imports.add("pagable_nodes.specs.NodeCases", "held_in")?;
+    imports.add("pagable_nodes.specs.NodeCases", "fields_at")?;
     imports.add("std.specs.Arc", "arc_value")?;
     imports.add_all("std.specs.Prelude", &["Option", "ℕ"])?;
     Ok(imports)
@@ -245,13 +237,30 @@ pub fn nodes(
             "{snake}_case (node_variants.{case} x) = in_case {snake}_types {number} (arc_value x)"
         )?;
     }
+    write_held(&mut out, snake, node, types)?;
+    Ok(out)
+}
+
+/// Writes the value in a node, by the type's number.
+fn write_held(
+    out: &mut String,
+    snake: &str,
+    node: &str,
+    types: &[TypeNames],
+) -> Result<(), AllocError> {
     write!(
         out,
         "
 -- the value in a node, if the node is of the type with this number
 abbrev pub {snake}_held : (t : ℕ) → {node} → Option (FieldsOf {snake}_types t)
-{snake}_held t n = held_in {snake}_types {snake}_case t n
 "
     )?;
-    Ok(out)
+    for (number, names) in types.iter().enumerate() {
+        let case = names.name.as_str();
+        writeln!(
+            out,
+            "{snake}_held t (node_variants.{case} x) = fields_at {snake}_types t {number} (arc_value x)"
+        )?;
+    }
+    Ok(())
 }
