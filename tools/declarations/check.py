@@ -93,15 +93,19 @@ def expect(found, wanted, what):
         sys.exit(f"{what}: {found!r} in place of {wanted!r}")
 
 
+def fault_rows():
+    """The files with a fault: the bytes, the line and the reason of each."""
+    return [(f"env Store;\n{text}".encode(), line, reason) for text, line, reason in FAULTS] + FILES
+
+
 def check_faults(run, work):
     """Runs the program on each fault: it says the line and the reason, and writes nothing."""
     file, folder = work / "faults.decl", work / "faults"
-    rows = [(f"env Store;\n{text}".encode(), line, reason) for text, line, reason in FAULTS]
-    for text, line, reason in rows + FILES:
+    for text, line, reason in fault_rows():
         file.write_bytes(text)
         expect(run(file, "names", folder), (2, "", f"{file}:{line}: {reason}\n"), text)
         expect(folder.exists(), False, "a folder after a fault")
-    return len(rows) + len(FILES)
+    return len(fault_rows())
 
 
 def check_words(run, work):

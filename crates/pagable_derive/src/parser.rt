@@ -27,7 +27,7 @@ struct TypeHead<'a> {
     body: Cursor<'a>,
 }
 
-/// What is read with the types' numbers known.
+/// Reads bodies, with the types' numbers known.
 #[derive(Clone, Copy)]
 struct BodyReader<'a> {
     alloc: Global,
@@ -36,14 +36,19 @@ struct BodyReader<'a> {
 
 /// Copies doc comments.
 fn copy_docs(alloc: Global, docs: &[String]) -> Result<Vec<String>, AllocError> {
-    docs.iter().map(|doc| doc.clone()).try_collect(alloc)
+    let mut copies = Vec::new(alloc);
+    copies.extend_with_clones(docs)?;
+    Ok(copies)
 }
 
-/// Reads the first item: the environment's name.
+/// What a file begins with.
+const FIRST: &str = "`env NAME;` before the types";
+
+/// Reads the first item: the environment's name, and its line.
 fn read_environment(part: &Part) -> Result<(usize, &str), Refusal> {
     let mut cursor = Cursor::new(part);
-    if !cursor.word("`env NAME;`").is_ok_and(|word| word == "env") {
-        return refuse(part.line, Reason::NoEnvironment);
+    if cursor.word(FIRST)? != "env" {
+        return cursor.refuse_for(FIRST);
     }
     if !part.docs.is_empty() {
         return refuse(part.line, Reason::MisplacedDoc);
@@ -84,7 +89,7 @@ fn read_head<'a>(
 impl BodyReader<'_> {
     /// Reads a field. One of a struct begins with `pub`; one of a tuple has its place as its name.
     fn field(
-        self,
+        &self,
         part: &Part,
         style: Style,
         is_public: bool,
@@ -111,7 +116,7 @@ impl BodyReader<'_> {
 
     /// Reads fields.
     fn fields(
-        self,
+        &self,
         parts: &[Part],
         style: Style,
         is_public: bool,
@@ -136,7 +141,7 @@ impl BodyReader<'_> {
     }
 
     /// Reads a case of an enum.
-    fn case(self, part: &Part) -> Result<Case, Refusal> {
+    fn case(&self, part: &Part) -> Result<Case, Refusal> {
         let mut cursor = Cursor::new(part);
         let name = cursor.word("the name of a case")?;
         let owner = (cursor.line(), name);
@@ -160,7 +165,7 @@ impl BodyReader<'_> {
     }
 
     /// Reads the cases of an enum.
-    fn cases(self, parts: &[Part], owner: (usize, &str)) -> Result<Vec<Case>, Refusal> {
+    fn cases(&self, parts: &[Part], owner: (usize, &str)) -> Result<Vec<Case>, Refusal> {
         let (line, name) = owner;
         if parts.is_empty() {
             return refuse(line, Reason::Empty(String::from_str(self.alloc, name)?));
@@ -180,7 +185,7 @@ impl BodyReader<'_> {
     }
 
     /// Reads the body of a type.
-    fn body(self, head: TypeHead<'_>) -> Result<Body, Refusal> {
+    fn body(&self, head: TypeHead<'_>) -> Result<Body, Refusal> {
         let mut cursor = head.body;
         let owner = (cursor.line(), head.name);
         let braces = cursor.group('{');
@@ -259,7 +264,7 @@ fn read_bodies(alloc: Global, heads: &[TypeHead<'_>]) -> Result<Vec<DeclaredType
 pub fn read_declaration(alloc: Global, text: &str) -> Result<Declaration, Refusal> {
     let items = group(alloc, read_tokens(alloc, text)?)?;
     let Some((first, rest)) = items.as_slice().split_first() else {
-        return refuse(1, Reason::NoEnvironment);
+        return refuse(1, Reason::Expected(FIRST));
     };
     let (line, environment) = read_environment(first)?;
     let mut names = PrintedNames::new(alloc);

@@ -22,8 +22,6 @@ pub enum Reason {
     MisplacedDoc,
     #[error("expected {0}")]
     Expected(&'static str),
-    #[error("expected `env NAME;` before the types")]
-    NoEnvironment,
     #[error("a declaration has one environment")]
     SecondEnvironment,
     #[error("a declaration has a type")]

@@ -36,7 +36,13 @@ const GHOST_MEMBERS: &str = "
 
 /// What the clauses of the node's impl import beside the crate's own specs.
 const GHOST_USES: &str = "    ghost use Rattle.pagable_nodes.specs.Cases.{encoding_of, shape_of};
-    ghost use Rattle.pagable_nodes.specs.NodeCases.{case_has_meaning, case_refers, typed_has_shape, typed_reads, typed_shape};
+    ghost use Rattle.pagable_nodes.specs.NodeCases.{
+      case_has_meaning,
+      case_refers,
+      typed_has_shape,
+      typed_reads,
+      typed_shape,
+    };
     ghost use Rattle.pagable_traits.specs.HeldValues.{only_references};
     ghost use Rattle.pagable_value_spec.specs.References.{references_in};
 ";

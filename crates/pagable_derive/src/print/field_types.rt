@@ -54,7 +54,7 @@ pub fn add_rust_imports(of: &FieldType, imports: &mut Imports) -> Result<(), All
 }
 
 /// Returns a text, in parentheses if it has several words.
-fn atom(alloc: Global, text: String) -> Result<String, AllocError> {
+pub fn atom(alloc: Global, text: String) -> Result<String, AllocError> {
     if text.contains(' ') {
         return format!(in alloc; "({text})");
     }

@@ -1,6 +1,6 @@
 //! The imports of a printed file.
 
-use crate::print::layout::{WIDTH, joined, write_filled};
+use crate::print::layout::{SPEC_WIDTH, WIDTH, joined, write_filled, write_lines};
 use std::alloc::{AllocError, Global};
 use std::collections::{BTreeMap, BTreeSet};
 
@@ -59,7 +59,8 @@ impl Imports {
         Ok(())
     }
 
-    /// Writes a line of contracts or specs for each module, between these texts.
+    /// Writes a line of contracts or specs for each module, between these texts, or a line for each name if it would
+    /// be too long.
     pub fn write_spec_uses(
         &self,
         out: &mut String,
@@ -67,8 +68,16 @@ impl Imports {
         after: &str,
     ) -> Result<(), AllocError> {
         for (path, names) in &self.paths {
-            let list = joined(self.alloc, listed(self.alloc, names)?.as_slice())?;
-            writeln!(out, "{before}use Rattle.{path}.{{{list}}}{after}")?;
+            let names = listed(self.alloc, names)?;
+            let list = joined(self.alloc, names.as_slice())?;
+            let line = format!(in self.alloc; "{before}use Rattle.{path}.{{{list}}}{after}")?;
+            if line.chars().count() <= SPEC_WIDTH {
+                writeln!(out, "{line}")?;
+            } else {
+                writeln!(out, "{before}use Rattle.{path}.{{")?;
+                write_lines(out, 2, names.as_slice())?;
+                writeln!(out, "}}{after}")?;
+            }
         }
         Ok(())
     }

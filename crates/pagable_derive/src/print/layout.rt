@@ -5,6 +5,9 @@ use std::alloc::{AllocError, Global};
 /// The most characters of a line.
 pub const WIDTH: usize = 100;
 
+/// The most characters of a line of specs.
+pub const SPEC_WIDTH: usize = 120;
+
 /// The most characters between the brackets of a tuple or a call in one line.
 pub const CALL_WIDTH: usize = 60;
 
@@ -56,7 +59,7 @@ fn is_short(item: &str) -> bool {
 }
 
 /// Writes each item in a line of its own.
-fn write_lines(out: &mut String, indent: usize, items: &[String]) -> Result<(), AllocError> {
+pub fn write_lines(out: &mut String, indent: usize, items: &[String]) -> Result<(), AllocError> {
     for item in items {
         write_indent(out, indent)?;
         writeln!(out, "{item},")?;
@@ -161,4 +164,22 @@ pub fn grouped(alloc: Global, items: &[String]) -> Result<Vec<String>, AllocErro
         groups.push(text)?;
     }
     Ok(groups)
+}
+
+/// Writes a definition of specs, broken at spaces if it is too long for a line.
+pub fn write_definition(out: &mut String, text: &str) -> Result<(), AllocError> {
+    let mut wide: usize = 0;
+    for word in text.split(' ') {
+        let more = width(word).saturating_add(1);
+        if wide > 0 && wide.saturating_add(more) > SPEC_WIDTH {
+            out.push_str("\n   ")?;
+            wide = 3;
+        }
+        if wide > 0 {
+            out.push(' ')?;
+        }
+        out.push_str(word)?;
+        wide = wide.saturating_add(more);
+    }
+    out.push('\n')
 }

@@ -1,9 +1,9 @@
 //! How the specs are printed: `Types`, with the encodings, and `Nodes`, with the cases of the node.
 
 use crate::declared::{Body, Case, DeclaredType, Fields};
-use crate::print::field_types::Encodings;
+use crate::print::field_types::{Encodings, atom};
 use crate::print::imports::Imports;
-use crate::print::layout::{grouped, joined};
+use crate::print::layout::{grouped, joined, write_definition};
 use crate::print::modules::ordinals;
 use crate::print::{MARK, TypeNames};
 use std::alloc::{AllocError, Global};
@@ -30,16 +30,11 @@ fn write_struct(
         format!(in alloc; "({inner})")?
     };
     let encoding = encodings.of_fields(fields.list.as_slice())?;
-    writeln!(
-        out,
-        "\nabbrev pub {}_encoding : Encoding {}",
-        names.snake, names.name
-    )?;
-    writeln!(
-        out,
-        "{}_encoding = fields (λ x. {tuple}) ({encoding})",
-        names.snake
-    )
+    let encoding = atom(alloc, encoding)?;
+    let TypeNames { name, snake } = names;
+    writeln!(out, "\nabbrev pub {snake}_encoding : Encoding {name}")?;
+    let text = format!(in alloc; "{snake}_encoding = fields (λ x. {tuple}) {encoding}")?;
+    write_definition(out, text.as_str())
 }
 
 /// Returns the list of the cases' encodings: `case A (case B no_more)`.
@@ -48,16 +43,12 @@ fn case_list(encodings: &mut Encodings, cases: &[Case]) -> Result<String, AllocE
     let mut close = String::new(encodings.alloc);
     for case in cases {
         let encoding = encodings.of_fields(case.fields.list.as_slice())?;
-        let (open, end) = if encoding.contains(' ') {
-            ("(", ")")
-        } else {
-            ("", "")
-        };
+        let encoding = atom(encodings.alloc, encoding)?;
         if !list.is_empty() {
             list.push_str("(")?;
             close.push_str(")")?;
         }
-        write!(list, "case {open}{encoding}{end} ")?;
+        write!(list, "case {encoding} ")?;
     }
     write!(list, "no_more{close}")?;
     Ok(list)
@@ -86,10 +77,10 @@ fn write_case(
         pattern = format!(in alloc; "({pattern})")?;
     }
     let snake = names.snake.as_str();
-    writeln!(
-        out,
+    let text = format!(in alloc;
         "{snake}_case {pattern} = in_case {snake}_cases {number} {value}"
-    )
+    )?;
+    write_definition(out, text.as_str())
 }
 
 /// Writes the encoding of an enum: of its cases, by their numbers.
@@ -108,15 +99,16 @@ fn write_enum(
         .add("pagable_nodes.specs.Encoding", "Encoding")?;
     let (name, snake) = (names.name.as_str(), names.snake.as_str());
     let list = case_list(encodings, cases)?;
-    write!(
+    writeln!(
         out,
-        "
--- the fields of each case, and which case a value of `{name}` has
-abbrev pub {snake}_cases : Cases
-{snake}_cases = {list}
-
-abbrev pub {snake}_case : {name} → CaseOf {snake}_cases
-"
+        "\n-- the fields of each case, and which case a value of `{name}` has"
+    )?;
+    writeln!(out, "abbrev pub {snake}_cases : Cases")?;
+    let text = format!(in encodings.alloc; "{snake}_cases = {list}")?;
+    write_definition(out, text.as_str())?;
+    writeln!(
+        out,
+        "\nabbrev pub {snake}_case : {name} → CaseOf {snake}_cases"
     )?;
     for (number, case) in cases.iter().enumerate() {
         write_case(out, names, number, case)?;
@@ -222,10 +214,9 @@ pub fn nodes(
         "use Rattle.{crate_name}.specs.declared.{snake}.{node}.TheVariants as node_variants"
     )?;
     let list = type_list(alloc, types)?;
-    writeln!(
-        out,
-        "\nabbrev pub {snake}_types : Cases\n{snake}_types = {list}"
-    )?;
+    writeln!(out, "\nabbrev pub {snake}_types : Cases")?;
+    let text = format!(in alloc; "{snake}_types = {list}")?;
+    write_definition(&mut out, text.as_str())?;
     writeln!(
         out,
         "\nabbrev pub {snake}_case : {node} → CaseOf {snake}_types"
