@@ -1,10 +1,11 @@
 #!/usr/bin/env python3
-"""Runs `pagable_derive` on declarations that can't be printed, on folders that it printed or not, and on the declaration
-of `declared_types`, whose folder has to be what it prints; its status is 0 if it says each time what it has to say.
+"""Runs `pagable_derive` on declarations that can't be printed, on folders that it printed or not, and on the
+declaration of `declared_types`, whose folder has to be what it prints; its status is 0 if it says each time what it has
+to say.
 
-    tools/declarations/check.py PROGRAM         (PROGRAM is crates/pagable_derive/out/pagable_derive, as `rt ci` builds it)
+    tools/declarations/check.py PROGRAM
 
-What it has to say is written here by hand.
+PROGRAM is crates/pagable_derive/out/pagable_derive, as `rt ci` builds it. What it has to say is written here by hand.
 """
 import pathlib
 import subprocess
@@ -123,7 +124,8 @@ def check_folder(run, work):
     """Prints a folder, prints it again, changes it, and puts there what the program didn't print."""
     file, folder = work / "one.decl", work / "one"
     file.write_text("env Place;\npub struct Spot { pub number: u64 }\n")
-    names = ["src/lib.rt", "src/place.rt", "src/spot.rt", "specs/Lib.antt", "specs/Nodes.antt", "specs/Types.antt"]
+    names = ["src/lib.rt", "src/place.rt", "src/spot.rt"]
+    names += ["specs/Lib.antt", "specs/Nodes.antt", "specs/Types.antt"]
     paths = [f"{folder}/{name}" for name in names]
     words = [file, "spots", folder]
     expect(run("--check", *words), (1, f"{paths[0]}: is missing\n", ""), "a folder that isn't there")
@@ -143,7 +145,8 @@ def check_folder(run, work):
     own = folder / "src/lib.rt"
     own.write_text("//! My own.\n")
     spot.unlink()
-    expect(run(*words), (2, "", f"{own}: stands there, and isn't printed by pagable_derive\n"), "a file of another hand")
+    other = f"{own}: stands there, and isn't printed by pagable_derive\n"
+    expect(run(*words), (2, "", other), "a file of another hand")
     expect((own.read_text(), spot.exists()), ("//! My own.\n", False), "the folder after a refusal")
     return 9
 

@@ -50,17 +50,18 @@ fn holder(name: &'static str, argument_count: usize, encoding: &'static str) -> 
 }
 
 /// Returns the row of a type that holds values by keys.
-fn keyed(
-    name: &'static str,
-    argument_count: usize,
-    encoding: &'static str,
-    keys: Keys,
-    path: &'static str,
-) -> Carried {
+fn keyed(name: &'static str, argument_count: usize, encoding: &'static str, keys: Keys) -> Carried {
     Carried {
         keys: Some(keys),
-        path: Some(path),
         ..holder(name, argument_count, encoding)
+    }
+}
+
+/// Returns the row of a type that Rust imports from a module.
+fn imported(path: &'static str, row: Carried) -> Carried {
+    Carried {
+        path: Some(path),
+        ..row
     }
 }
 
@@ -81,30 +82,21 @@ fn rows() -> [Carried; 23] {
         plain("bool", "flag", "flag_order"),
         plain("char", "letter", "number_order"),
         plain("String", "text", "text_order"),
-        Carried {
-            path: Some("std::time"),
-            ..holder("Duration", 0, "duration")
-        },
+        imported("std::time", holder("Duration", 0, "duration")),
         holder("Option", 1, "optional"),
         holder("Vec", 1, "many"),
         holder("Box", 1, "boxed"),
         holder("Result", 2, "outcome"),
-        keyed(
-            "BTreeMap",
-            2,
-            "sorted_map",
-            Keys::Sorted,
+        imported(
             "std::collections",
+            keyed("BTreeMap", 2, "sorted_map", Keys::Sorted),
         ),
-        keyed(
-            "BTreeSet",
-            1,
-            "sorted_set",
-            Keys::Sorted,
+        imported(
             "std::collections",
+            keyed("BTreeSet", 1, "sorted_set", Keys::Sorted),
         ),
-        keyed("IndexMap", 2, "placed_map", Keys::Placed, "indexmap"),
-        keyed("IndexSet", 1, "placed_set", Keys::Placed, "indexmap"),
+        imported("indexmap", keyed("IndexMap", 2, "placed_map", Keys::Placed)),
+        imported("indexmap", keyed("IndexSet", 1, "placed_set", Keys::Placed)),
     ]
 }
 

@@ -88,6 +88,15 @@ fn other_file(
     }
 }
 
+/// Returns the paths of printed files.
+fn paths(alloc: Global, files: &[PrintedFile]) -> io::Result<BTreeSet<String>> {
+    let mut paths = BTreeSet::new(alloc);
+    for file in files {
+        paths.insert(file.path.clone()?)?;
+    }
+    Ok(paths)
+}
+
 /// Finds where the folders `src` and `specs` of a crate aren't what was printed: the first printed file that is
 /// missing or other, or else the first file that wasn't printed.
 ///
@@ -102,10 +111,7 @@ pub fn find_difference(
     if let Some(difference) = printed_difference(rt, folder, files)? {
         return Ok(Some(difference));
     }
-    let mut printed = BTreeSet::new(rt.alloc());
-    for file in files {
-        printed.insert(file.path.clone()?)?;
-    }
+    let printed = paths(rt.alloc(), files)?;
     for inner in FOLDERS {
         if let Some(difference) = other_file(rt, folder, inner, &printed)? {
             return Ok(Some(difference));
@@ -139,6 +145,14 @@ fn changed<'a>(
     Ok(Ok(changed))
 }
 
+/// Makes the folders of a crate, if they aren't there.
+fn make_folders(rt: &HostRuntime, folder: &str) -> io::Result<()> {
+    for inner in FOLDERS {
+        fs::create_dir_all(rt, path_in(rt.alloc(), folder, inner)?.as_str())?;
+    }
+    Ok(())
+}
+
 /// Writes the files that a folder doesn't have as they were printed, and says the path of each. Returns the path
 /// of a file that another hand wrote, before anything is written.
 ///
@@ -150,9 +164,7 @@ pub fn write(rt: &HostRuntime, folder: &str, files: &[PrintedFile]) -> io::Resul
         Ok(changed) => changed,
         Err(path) => return Ok(Some(path)),
     };
-    for inner in FOLDERS {
-        fs::create_dir_all(rt, path_in(rt.alloc(), folder, inner)?.as_str())?;
-    }
+    make_folders(rt, folder)?;
     for (path, file) in &changed {
         fs::write(rt, path.as_str(), file.text.as_str())?;
         println!(rt; "{path}")?;

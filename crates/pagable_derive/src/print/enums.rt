@@ -81,12 +81,19 @@ fn write_declared_case(out: &mut String, case: &Case, are_long: bool) -> Result<
     place.write_list(out, texts.as_slice())
 }
 
-/// Writes the declaration. If one case with named fields needs several lines, each has them.
-fn write_enum(out: &mut String, name: &str, cases: &[Case]) -> Result<(), AllocError> {
-    let mut are_long = false;
+/// Returns whether one of the cases with named fields needs several lines: then each has them.
+fn are_long(alloc: Global, cases: &[Case]) -> Result<bool, AllocError> {
     for case in cases {
-        are_long = are_long || is_long(*out.allocator(), case)?;
+        if is_long(alloc, case)? {
+            return Ok(true);
+        }
     }
+    Ok(false)
+}
+
+/// Writes the declaration.
+fn write_enum(out: &mut String, name: &str, cases: &[Case]) -> Result<(), AllocError> {
+    let are_long = are_long(*out.allocator(), cases)?;
     writeln!(out, "pub enum {name} {{")?;
     for case in cases {
         write_declared_case(out, case, are_long)?;
@@ -113,7 +120,7 @@ struct Call<'a> {
 
 impl Call<'_> {
     /// Returns the arguments of the call on a value.
-    fn arguments(self, alloc: Global, value: &str) -> Result<Vec<String>, AllocError> {
+    fn arguments(&self, alloc: Global, value: &str) -> Result<Vec<String>, AllocError> {
         let mut arguments = Vec::new(alloc);
         push_all(&mut arguments, self.first)?;
         push_all(&mut arguments, &[value])?;
@@ -122,7 +129,7 @@ impl Call<'_> {
     }
 
     /// Writes the call behind a pattern that takes no more than one name, as an arm.
-    fn write_arm(self, out: &mut String, pattern: &str, value: &str) -> Result<(), AllocError> {
+    fn write_arm(&self, out: &mut String, pattern: &str, value: &str) -> Result<(), AllocError> {
         let alloc = *out.allocator();
         let before = format!(in alloc; "{pattern} => {}(", self.name)?;
         let place = Place {
@@ -135,7 +142,7 @@ impl Call<'_> {
     }
 
     /// Writes the arm of a case with several fields: a block.
-    fn write_block(self, out: &mut String, path: &str, case: &Case) -> Result<(), AllocError> {
+    fn write_block(&self, out: &mut String, path: &str, case: &Case) -> Result<(), AllocError> {
         let alloc = *out.allocator();
         let names = bound_names(alloc, &case.fields)?;
         let (open, after, widest) = match case.fields.style {
@@ -169,7 +176,7 @@ impl Call<'_> {
     }
 
     /// Writes the arm of a case.
-    fn write(self, out: &mut String, name: &str, case: &Case) -> Result<(), AllocError> {
+    fn write(&self, out: &mut String, name: &str, case: &Case) -> Result<(), AllocError> {
         let alloc = *out.allocator();
         let path = format!(in alloc; "{name}::{}", case.name)?;
         let names = bound_names(alloc, &case.fields)?;

@@ -81,14 +81,9 @@ fn imports_of(alloc: Global, types: &[TypeNames]) -> Result<Imports, AllocError>
 }
 
 impl Environment<'_> {
-    /// Writes the head of the module, and the environment.
-    fn write_head(self, out: &mut String, types: &[TypeNames]) -> Result<(), AllocError> {
-        let Environment {
-            crate_name,
-            name,
-            snake,
-            ..
-        } = self;
+    /// Writes the head of the module.
+    fn write_head(&self, out: &mut String, types: &[TypeNames]) -> Result<(), AllocError> {
+        let (crate_name, snake) = (self.crate_name, self.snake);
         let list = listed(self.alloc, types)?;
         write!(
             out,
@@ -102,7 +97,13 @@ ghost use Rattle.std.specs.Prelude.{{Some, refl, ◌≡◌}};
 
 "
         )?;
-        imports_of(self.alloc, types)?.write_uses(out)?;
+        imports_of(self.alloc, types)?.write_uses(out)
+    }
+
+    /// Writes the environment, and the head of its node.
+    fn write_environment(&self, out: &mut String, types: &[TypeNames]) -> Result<(), AllocError> {
+        let name = self.name;
+        let list = listed(self.alloc, types)?;
         write!(
             out,
             "
@@ -132,7 +133,7 @@ pub enum {name}Node {{
     }
 
     /// Writes the cases of the node, each with its number in `node_type`.
-    fn write_cases(self, out: &mut String, types: &[TypeNames]) -> Result<(), AllocError> {
+    fn write_cases(&self, out: &mut String, types: &[TypeNames]) -> Result<(), AllocError> {
         for names in types {
             let name = names.name.as_str();
             writeln!(out, "    {name}(Arc<{name}>),")?;
@@ -141,13 +142,8 @@ pub enum {name}Node {{
     }
 
     /// Writes the ghost members of the node's impl.
-    fn write_members(self, out: &mut String) -> Result<(), AllocError> {
-        let Environment {
-            crate_name,
-            name,
-            snake,
-            ..
-        } = self;
+    fn write_members(&self, out: &mut String) -> Result<(), AllocError> {
+        let (crate_name, name, snake) = (self.crate_name, self.name, self.snake);
         writeln!(out, "\nimpl NodeSet<{name}> for {name}Node {{")?;
         writeln!(
             out,
@@ -166,7 +162,7 @@ pub enum {name}Node {{
     }
 
     /// Writes the arms of `node_type`.
-    fn write_type_arms(self, out: &mut String, types: &[TypeNames]) -> Result<(), AllocError> {
+    fn write_type_arms(&self, out: &mut String, types: &[TypeNames]) -> Result<(), AllocError> {
         for (number, names) in types.iter().enumerate() {
             writeln!(
                 out,
@@ -179,7 +175,7 @@ pub enum {name}Node {{
 
     /// Writes a call's head, and the match that its body begins with.
     fn write_signature(
-        self,
+        &self,
         out: &mut String,
         before: &str,
         parameters: &[&str],
@@ -200,7 +196,7 @@ pub enum {name}Node {{
 
     /// Writes arms that make a call of `NodeValue` on the value.
     fn write_value_arms(
-        self,
+        &self,
         out: &mut String,
         types: &[TypeNames],
         call: &str,
@@ -226,7 +222,7 @@ pub enum {name}Node {{
     }
 
     /// Writes the arms of `read`.
-    fn write_read_arms(self, out: &mut String, types: &[TypeNames]) -> Result<(), AllocError> {
+    fn write_read_arms(&self, out: &mut String, types: &[TypeNames]) -> Result<(), AllocError> {
         let alloc = String::from_str(self.alloc, "alloc")?;
         let deserializer = String::from_str(self.alloc, "deserializer")?;
         let arguments = vec![in self.alloc; alloc, deserializer]?;
@@ -247,7 +243,7 @@ pub enum {name}Node {{
     }
 
     /// Writes the calls of the node.
-    fn write_calls(self, out: &mut String, types: &[TypeNames]) -> Result<(), AllocError> {
+    fn write_calls(&self, out: &mut String, types: &[TypeNames]) -> Result<(), AllocError> {
         let name = self.name;
         self.write_type_arms(out, types)?;
         out.push_str(
@@ -280,7 +276,7 @@ pub enum {name}Node {{
 
     /// Writes what makes a type one of the node's.
     fn write_type(
-        self,
+        &self,
         out: &mut String,
         number: usize,
         names: &TypeNames,
@@ -347,6 +343,7 @@ pub fn module(
     };
     let mut out = String::new(alloc);
     environment.write_head(&mut out, types)?;
+    environment.write_environment(&mut out, types)?;
     environment.write_cases(&mut out, types)?;
     environment.write_members(&mut out)?;
     environment.write_calls(&mut out, types)?;
