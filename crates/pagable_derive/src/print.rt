@@ -159,14 +159,14 @@ pub fn print(
     Ok(printer.files)
 }
 
-/// Returns the number of the first line of code that is too long, from 1, if there is one. Comments and the imports
-/// of clauses may have any length.
+/// Returns the number of the first line of code that is too long, from 1, if there is one. Comments and attributes may
+/// have any length.
 fn long_line_in(text: &str) -> Option<usize> {
     let mut number: usize = 0;
     for line in text.lines() {
         number = number.saturating_add(1);
         let start = line.trim_start();
-        let is_code = !start.starts_with("//") && !start.starts_with("ghost use ");
+        let is_code = !start.starts_with("//") && !start.starts_with("#[tactic(");
         if is_code && line.chars().count() > WIDTH {
             return Some(number);
         }

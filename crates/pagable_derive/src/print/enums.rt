@@ -26,6 +26,11 @@ pub const TRAITS: [&str; 6] = [
     "RawRef",
 ];
 
+/// What the check tries at the goals of the reader.
+const READ_TACTIC: &str =
+    "    #[tactic(auto, unfolding(pagable_value_spec::specs::Reading::read, \
+    pagable_value_spec::specs::Reading::read_with), using(pagable_nodes::proofs::Enums::enums))]\n";
+
 /// The most characters between the braces of a case in one line.
 const CASE_WIDTH: usize = 35;
 
@@ -281,12 +286,10 @@ impl<E: Env> NodeValue<E> for {name} {{
 "
     )?;
     write_calls(out, name, cases)?;
+    out.push_str("        }\n    }\n\n")?;
+    out.push_str(READ_TACTIC)?;
     out.push_str(
-        "        }
-    }
-
-    #[tactic(auto, using(pagable_nodes::proofs::Enums::enums))]
-    fn read<D: PagableDeserializer<E>>(alloc: Global, deserializer: &mut D) -> Result<Self, Error> {
+        "    fn read<D: PagableDeserializer<E>>(alloc: Global, deserializer: &mut D) -> Result<Self, Error> {
         match read_case(deserializer)? {
 ",
     )?;
