@@ -163,9 +163,10 @@ def main(words):
     with tempfile.TemporaryDirectory() as folder:
         work = pathlib.Path(folder)
         count = check_faults(run, work) + check_words(run, work) + check_folder(run, work)
-    declared = CRATES / "pagable_derive/data/types.decl"
-    if (CRATES / "declared_types").exists():
-        expect(run("--check", declared, "declared_types", CRATES / "declared_types"), (0, "", ""), "declared_types")
+    declared, crate = CRATES / "pagable_derive/data/types.decl", CRATES / "declared_types"
+    # (until the crate is printed it is written by hand)
+    if (crate / "src/lib.rt").exists() and (crate / "src/lib.rt").read_text().startswith("// Printed"):
+        expect(run("--check", declared, "declared_types", crate), (0, "", ""), "declared_types")
         count += 1
     print(f"declarations: {count} runs as they have to be")
 
