@@ -27,8 +27,7 @@ pub const TRAITS: [&str; 6] = [
 ];
 
 /// What the check tries at the goals of the reader.
-const READ_TACTIC: &str =
-    "    #[tactic(auto, unfolding(pagable_value_spec::specs::Reading::read, \
+const READ_TACTIC: &str = "    #[tactic(auto, unfolding(pagable_value_spec::specs::Reading::read, \
     pagable_value_spec::specs::Reading::read_with), using(pagable_nodes::proofs::Enums::enums))]\n";
 
 /// The most characters between the braces of a case in one line.
