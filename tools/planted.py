@@ -714,6 +714,24 @@ def plain_files(_):
             yield why, str(refused)
 
 
+def declarations(work):
+    """A `pagable_derive` that names the line behind the fault, and one that writes a folder behind it."""
+    check = module_at("check_of_declarations", HERE / "declarations" / "check.py")
+    rows = {text: (line, reason) for text, line, reason in check.fault_rows()}
+
+    def program(later, folder_is_written):
+        def run(file, _, folder):
+            line, reason = rows[file.read_bytes()]
+            if folder_is_written:
+                folder.mkdir()
+            return 2, "", f"{file}:{line + later}: {reason}\n"
+        return run
+
+    faults = [(0, False, ""), (1, False, "in place of"), (0, True, "a folder after a fault")]
+    for later, folder_is_written, why in faults:
+        yield why, told(check.check_faults, program(later, folder_is_written), work)
+
+
 def hostile_run(work):
     """An input that comes to something else, and one that comes too late."""
     run = module_at("run_of_hostile", HERE / "hostile" / "run.py").Run(work)
@@ -752,7 +770,8 @@ TOOLS = {
     "failures/hostile.py": hostile_input, "failures/middle.py": rows_in_the_middle, "failures/naming.py": names,
     "failures/table.py": refusals, "failures/pagectl.py": scripts, "fuzz.py": fuzzed, "programs": programs,
     "gate.py": of_gate, "gate_times.py": of_times, "file_blobs": files, "host_files": host_files,
-    "file_blobs/plain_file.py": plain_files, "hostile": hostile_run, "rows": data_rows, "nightly.py": of_night,
+    "file_blobs/plain_file.py": plain_files, "declarations": declarations, "hostile": hostile_run, "rows": data_rows,
+    "nightly.py": of_night,
 }
 
 
