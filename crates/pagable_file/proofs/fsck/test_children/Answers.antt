@@ -11,7 +11,7 @@ loop-child-preserved g c of names kids =
     (l.invariant of names kids) (c.in_ok-test_there.ensures.tested of names
     (λ none. (kids c.child-item.result (l.child-index, c.loop-child-test.true, sym c.child-item.is), none)))
 
-pub returns-clause-tested : goal.returns-clause-tested
-returns-clause-tested g c of names kids =
+pub returns : goal.returns
+returns g c of names kids =
     each_tested (IsThere (stored g.D.Disk c.args.file.now)) c.args.children.now c.loop-child.child-index c.loop-child-test.false
     (c.loop-child.invariant of names kids)

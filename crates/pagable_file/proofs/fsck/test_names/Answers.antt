@@ -21,8 +21,8 @@ loop-name-preserved g c =
           (l.invariant.1 of) (rw c.as_str.ensures.value at (c.in_ok-test_name.ensures.tested of)),
     )
 
-pub returns-clause-tested : goal.returns-clause-tested
-returns-clause-tested g c of =
+pub returns : goal.returns
+returns g c of =
     let l = c.loop-name in
     let bodies = stored g.D.Disk c.args.file.now in
     let names = named c.args.file.now in
