@@ -13,11 +13,11 @@ use Rattle.pagable_file.specs.{
 use Rattle.pagable_value_spec.specs.Blob.{Blob}
 use Rattle.sqlite_disk.specs.declared.Disk.{Ghosts}
 use Rattle.std.proofs.{
-  Common.{IsTrue, List, None, Option, Some, String, ap, arith, get_or, length, map, refl, string_bytes, sym, take, ℕ, [], ◌++◌, ◌+◌},
+  Common.{IsTrue, List, None, Option, Some, String, ap, arith, get_or, length, map, refl, string_bytes, subst, suc, sym, take, zero, ℕ, [], ◌++◌, ◌+◌},
   Common.{◌<◌, ◌∙◌, ◌∷◌, ◌≡◌, ◌≢◌, ◌≤◌, inl, inr},
   lemmas.List.{Elements.{All-contains, All-from_recursion}, length_push, take_all},
 }
-use Rattle.std.specs.{List.{AllByRecursion as Each, Contains}, Prelude.{IsSome, is_some, ◌↔◌}}
+use Rattle.std.specs.{List.{AllByRecursion as Each, Contains}, Prelude.{IfSome, IsSome, is_some, ◌↔◌}}
 use Rattle.pagable_file.specs.declared.fsck.Flaw.TheVariants as flaw
 
 -- a flaw was added
@@ -52,7 +52,7 @@ each_tested T xs n h t = rw (take_all n xs h) at t
 -- a whole file has no flaw
 no_flaw : (of : Blob → ℕ) (bodies : ℕ → Option Body) (names : List ℕ → Option ℕ) (it : Flaw) → IsWhole of bodies names → IsFlaw of bodies names it → ⊥
 no_flaw of bodies names (flaw.StrayBlob key) w h = elim h.2 [
-  | inl zero ↦ (w.blobs key h.0 h.1).can zero
+  | inl at_zero ↦ (w.blobs key h.0 h.1).can at_zero
   | inr none ↦ absurd (let both : None ≡ Some (w.blobs key h.0 h.1).blob = sym none ∙ (w.blobs key h.0 h.1).is in cc)
 ]
 no_flaw of bodies names (flaw.WrongKey key) w h = under (bodies key) refl h.1
@@ -93,6 +93,23 @@ pub body_tested : {P : Flaw → Type 0} (of : Blob → ℕ) (bodies : ℕ → Op
     → AddsFlawsUnless P a c (IsSoundAt of bodies key)
 body_tested of bodies key blob is can f g = tested_as (λ h body here.
     record { blob = blob; is = sym (ap blob_if_some here) ∙ is; can = can; keyed = h.0; children = h.1 }) (tested_then f g)
+
+-- the body that was found under a number is that of a blob, which was tested
+pub found_tested : {P : Flaw → Type 0} (of : Blob → ℕ) (bodies : ℕ → Option Body) {a b c : List Flaw} (number key : ℕ) (blob : Blob) (children : List ℕ)
+    → key ≡ number → number ≢ 0 → blobs_of bodies key ≡ Some blob → children ≡ blob.keys → AddsFlawsUnless P a b (of blob ≡ key)
+    → AddsFlawsUnless P b c (Each (IsThere bodies) children) → AddsFlawsUnless P a c (IsSoundAt of bodies number)
+found_tested of bodies number key blob children same can is kids f g =
+    rw (← same) (body_tested of bodies key blob is (λ at_zero. can (sym same ∙ at_zero)) f (rw kids at g))
+
+-- what holds of an option's value, if there is one
+pub of_some : {A : Type 0} (P : A → Type 0) (o : Option A) (x : A) → o ≡ Some x → IfSome o P → P x
+of_some {A} P o x is h = subst (λ (it : Option A). IfSome it P) is h
+
+-- an element that is there is got, whatever stands for one that isn't
+pub got : {A : Type 0} (xs : List A) (i : ℕ) (x y : A) → i < length xs → get_or xs i x ≡ get_or xs i y
+got [] i x y h = absurd (omega (arith, h))
+got (a ∷ xs) zero x y h = refl
+got (a ∷ xs) (suc i) x y h = got xs i x y (omega (arith, h))
 
 -- nothing is under the key
 pub none_at : (of : Blob → ℕ) (bodies : ℕ → Option Body) (key : ℕ) → bodies key ≡ None → IsSoundAt of bodies key

@@ -20,6 +20,7 @@ use crate::stats::count_file_error;
 use crate::watch::Watch;
 use blob_file::file::{BlobFile, FoundBlob};
 use blob_file::file_error::FileError;
+use blob_file::listing::ListedBlob as FileEntry;
 use pagable_codec::{Env, KeyHash};
 use pagable_core::PagableData;
 use pagable_flavors::{DataKey, Error};
@@ -97,15 +98,22 @@ fn test_key<H: KeyHash>(
     Ok(())
 }
 
+/// A blob that was found under a key.
+#[derive(Drop)]
+struct KeyedBlob {
+    key: DataKey,
+    blob: PagableData,
+}
+
 /// Returns the key that this number is, and the blob whose body was found there. Returns None if
 /// the number is 0 or the body is no blob's.
 fn keyed_blob(
     alloc: Global,
     number: u128,
     found: &FoundBlob,
-) -> Result<Option<(DataKey, PagableData)>, AllocError>
-    ensures blob { IfOk result (λ it. IfSome it (λ blob. (blob.0 ≡ number) × (number ≢ 0)
-        × (blob_if_some (found_body (Some found.now)) ≡ Some (blob_of blob.1)))) }
+) -> Result<Option<KeyedBlob>, AllocError>
+    ensures blob { IfOk result (λ it. IfSome it (λ keyed. (keyed.key ≡ number) × (number ≢ 0)
+        × (blob_if_some (found_body (Some found.now)) ≡ Some (blob_of keyed.blob)))) }
     ensures stray { IfOk result (λ it. IfNone it (IsStray number
         (record { children = found.now.children; bytes = found.now.body.items }))) }
 {
@@ -113,7 +121,7 @@ fn keyed_blob(
         return Ok(None);
     };
     match read_blob(alloc, found)? {
-        Some(blob) => Ok(Some((key, blob))),
+        Some(blob) => Ok(Some(KeyedBlob { key, blob })),
         None => Ok(None),
     }
 }
@@ -132,9 +140,9 @@ fn test_body<H: KeyHash, D: Disk>(
         flaws.new.items (IsSoundAt (key_of H.digest) (stored D.Disk file.now) number)) }
 {
     match keyed_blob(alloc, number, found)? {
-        Some((key, blob)) => {
-            test_key::<H>(flaws, key, &blob)?;
-            test_children(file, flaws, key, blob.arcs.as_slice())
+        Some(keyed) => {
+            test_key::<H>(flaws, keyed.key, &keyed.blob)?;
+            test_children(file, flaws, keyed.key, keyed.blob.arcs.as_slice())
         }
         None => {
             flaws.push(Flaw::StrayBlob(number))?;
@@ -143,25 +151,25 @@ fn test_body<H: KeyHash, D: Disk>(
     }
 }
 
-/// Fetches what stands under a number, tests it, and adds its flaws.
+/// Fetches what stands under the number of a list's entry, tests it, and adds its flaws.
 #[tactic(auto, using(crate::proofs::Flawed::testing))]
 fn test_blob<H: KeyHash, D: Disk, W: Watch>(
     alloc: Global,
     file: &mut BlobFile<D>,
     flaws: &mut Vec<Flaw>,
     watch: &mut W,
-    number: u128,
+    entry: &FileEntry,
 ) -> Result<(), FileError>
     requires settled { IsSettled D.Disk file.old }
     ensures settled { IsSettled D.Disk file.new }
     ensures stays { Stays D.Disk file.old file.new }
     ensures tested { (names : List ℕ → Option ℕ) → IsClean D.Disk file.new.log.disk
         → OnOk result (AddsFlawsUnless (IsFlaw (key_of H.digest) (stored D.Disk file.old) names) flaws.old.items
-        flaws.new.items (IsSoundAt (key_of H.digest) (stored D.Disk file.old) number)) }
+        flaws.new.items (IsSoundAt (key_of H.digest) (stored D.Disk file.old) entry.now.key)) }
 {
     watch.note();
-    match file.fetch(alloc, number)? {
-        Some(found) => test_body::<H, D>(alloc, file, flaws, number, &found),
+    match file.fetch(alloc, entry.key)? {
+        Some(found) => test_body::<H, D>(alloc, file, flaws, entry.key, &found),
         None => Ok(()),
     }
 }
@@ -183,7 +191,7 @@ fn test_blobs<H: KeyHash, D: Disk, W: Watch>(
 {
     let entries = file.list(alloc)?;
     for entry in &entries {
-        test_blob::<H, D, W>(alloc, file, flaws, watch, entry.key)?;
+        test_blob::<H, D, W>(alloc, file, flaws, watch, entry)?;
     }
     Ok(())
 }

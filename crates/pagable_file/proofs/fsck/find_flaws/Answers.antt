@@ -1,4 +1,4 @@
-use Rattle.blob_file.specs.File.{named}
+use Rattle.blob_file.specs.File.{named, stored}
 use Rattle.pagable_file.proofs.Flawed.{all_found, bodies_same, names_same}
 use Rattle.pagable_value_spec.specs.Blob.{key_of}
 use Rattle.pagable_file.proofs.fsck.find_flaws.Goals as goal
@@ -6,6 +6,8 @@ use Rattle.pagable_file.proofs.fsck.find_flaws.Goals as goal
 pub returns-clause-tested : goal.returns-clause-tested
 returns-clause-tested g c sure =
     let of = key_of g.H.KeyHash.digest in
-    let stays = c.test_blobs.ensures.stays in
-    all_found of _ _ _ _ c.new-flaws.ensures.items (bodies_same g.D.Disk _ _ stays.content) (names_same g.D.Disk _ _ stays.content)
-    (c.in_ok-test_blobs.ensures.tested (named c.args.file.now) sure) (c.in_ok-test_names.ensures.tested of)
+    let old = c.args.file.now in
+    let new = c.test_blobs.new.file in
+    let same = c.test_blobs.ensures.stays.content in
+    all_found of (stored g.D.Disk old) (stored g.D.Disk new) (named old) (named new) c.new-flaws.ensures.items (bodies_same g.D.Disk old new same)
+    (names_same g.D.Disk old new same) (c.in_ok-test_blobs.ensures.tested (named old) sure) (c.in_ok-test_names.ensures.tested of)

@@ -12,6 +12,7 @@ loop-child-preserved g c of names kids =
     (λ none. (kids c.child-item.result (l.child-index, c.loop-child-test.true, sym c.child-item.is), none)))
 
 pub returns : goal.returns
-returns g c of names kids =
-    each_tested (IsThere (stored g.D.Disk c.args.file.now)) c.args.children.now c.loop-child.child-index c.loop-child-test.false
-    (c.loop-child.invariant of names kids)
+returns g c = record {
+  tested = λ of names kids. each_tested (IsThere (stored g.D.Disk c.args.file.now)) c.args.children.now c.loop-child.child-index c.loop-child-test.false
+      (c.loop-child.invariant of names kids);
+}

@@ -22,9 +22,10 @@ loop-name-preserved g c =
     )
 
 pub returns : goal.returns
-returns g c of =
+returns g c =
     let l = c.loop-name in
     let bodies = stored g.D.Disk c.args.file.now in
-    let names = named c.args.file.now in
-    tested_as (λ each name key is. of_listed string_bytes names (IsSoundName bodies names) _ l.invariant.0 each name (ap is_some is) key is)
-    (each_tested (λ n. IsSoundName bodies names (string_bytes n)) _ l.name-index c.loop-name-test.false (l.invariant.1 of))
+    let names = named c.args.file.now in record {
+      tested = λ of. tested_as (λ each name key is. of_listed string_bytes names (IsSoundName bodies names) _ l.invariant.0 each name (ap is_some is) key is)
+          (each_tested (λ n. IsSoundName bodies names (string_bytes n)) _ l.name-index c.loop-name-test.false (l.invariant.1 of));
+    }

@@ -10,9 +10,9 @@ use Rattle.pagable_file.proofs.laws.named_again.Goals as goal
 pub returns-in-Ok-find_named : goal.returns-in-Ok-find_named
 returns-in-Ok-find_named g c sure =
     let stored = c.in-Ok.ensures in
-    let opened = c.in_some-again.ensures in
+    let opened = c.in_ok-again.ensures in
     let honest = c.find_named.ensures.honest sure in
-    let again = c.in_some-again.again in
+    let again = c.in_ok-again.again in
     let file = c.store_named.new.storage in
     let clean = (and_parts (g.D.Disk.is_clean again.file.log.disk) again.file.log.is_whole honest).0 in
     let before : IsTrue (is_honest_file g.D.Disk file.file) = opened.was_honest clean in
