@@ -19,11 +19,11 @@ const GHOST_MEMBERS: &str = "
 
     ghost beside = { only_references };
 
-    ghost write_causes = { λ t. (encoding_of ENV_types t).writes.are };
+    ghost write_causes = { λ t. (typed_writes ENV_types t).are };
 
     ghost read_causes = { λ t. (typed_reads ENV_types t).are };
 
-    ghost write_causes_may_refuse = { λ t. (encoding_of ENV_types t).writes.may };
+    ghost write_causes_may_refuse = { λ t. (typed_writes ENV_types t).may };
 
     ghost read_causes_are_own = { λ t. (typed_reads ENV_types t).own };
 
@@ -35,13 +35,14 @@ const GHOST_MEMBERS: &str = "
 ";
 
 /// What the clauses of the node's impl import beside the crate's own specs.
-const GHOST_USES: &str = "    ghost use Rattle.pagable_nodes.specs.Cases.{encoding_of, shape_of};
+const GHOST_USES: &str = "    ghost use Rattle.pagable_nodes.specs.Cases.{shape_of};
     ghost use Rattle.pagable_nodes.specs.NodeCases.{
       case_has_meaning,
       case_refers,
       typed_has_shape,
       typed_reads,
       typed_shape,
+      typed_writes,
     };
     ghost use Rattle.pagable_traits.specs.HeldValues.{only_references};
     ghost use Rattle.pagable_value_spec.specs.References.{references_in};
