@@ -6,8 +6,8 @@
 `rt ci` proves each crate and its tests, tries the must-fail edits, and runs each program. (What it passed on this
 machine it keeps by the check sums of all that it read, and proves again only what changed; with --anew it proves all.)
 Beside it run the tools of TOOLS, which test what no proof says, one after the other, each once there is memory for it.
-The tools on files of blobs and on declarations take the programs that `rt ci` built, and ten wrong bodies, drawn by the
-commit's own hash, are tried once `rt ci` has ended.
+The tool on files of blobs takes the `blobctl` that `rt ci` built, and ten wrong bodies, drawn by the commit's own hash,
+are tried once `rt ci` has ended.
 
 Lines of `rt ci` begin with the minutes and seconds since the start. Behind them stands what each tool said, and a table
 of times by crate and tool (tools/gate_times.py writes docs/PROOFS.md's from it). The last line is 'N passed, M failed':
@@ -34,7 +34,6 @@ NEEDED = {"rt": "the Rattle toolchain", "git": "git", "cc": "gcc or clang", "sql
 SHARE, SPARE = 0.9, 6000
 # The programs that `rt ci` leaves.
 BLOBCTL, PAGECTL = "crates/blobctl/out/blobctl", "crates/pagectl/out/pagectl"
-DERIVE = "crates/pagable_derive/out/pagable_derive"
 # The tools: a name, the words that run it, and the crate of `rt ci` whose end it waits for, or `all`.
 TOOLS = (
     ("text", ["tools/check_text.py"], None),
@@ -46,7 +45,7 @@ TOOLS = (
     ("programs", ["tools/programs/run.py"], None),
     ("files of the system", ["tools/host_files/check.py"], None),
     ("files of blobs", ["tools/file_blobs/check.py", BLOBCTL], "blobctl"),
-    ("declarations", ["tools/declarations/check.py", DERIVE], "pagable_derive"),
+    ("declarations", ["tools/declarations/check.py"], None),
     ("hostile", ["tools/hostile/run.py", "--pagectl", PAGECTL, "--blobctl", BLOBCTL], "all"),
     ("wrong bodies", ["tools/wrong_bodies.py", "--over-ci", "--jobs", "3", "--drawn", "HEAD"], "all"),
 )

@@ -3,16 +3,22 @@
 declaration of `declared_types`, whose folder has to be what it prints; its status is 0 if it says each time what it has
 to say.
 
-    tools/declarations/check.py PROGRAM
+    tools/declarations/check.py [PROGRAM]
 
-PROGRAM is crates/pagable_derive/out/pagable_derive, as `rt ci` builds it. What it has to say is written here by hand.
+PROGRAM is a `pagable_derive`; without the word it is built unproved, as tools/speed/build.py says. What it has to say
+is written here by hand.
 """
 import pathlib
 import subprocess
 import sys
 import tempfile
 
-CRATES = pathlib.Path(__file__).resolve().parent.parent.parent / "crates"
+HERE = pathlib.Path(__file__).resolve().parent
+CRATES, DECLARED = HERE.parent.parent / "crates", HERE.parent / "crates" / "pagable_derive" / "data" / "types.decl"
+sys.dont_write_bytecode = True
+sys.path.insert(0, str(HERE.parent / "speed"))
+import build  # noqa: E402
+
 # Type declarations behind `env Store;` in line 1: the line with the fault, and the reason.
 FAULTS = [
     ("pub struct A { pub a: u8 } $", 2, "no declaration has the character '$'"),
@@ -152,10 +158,15 @@ def check_folder(run, work):
 
 
 def main(words):
-    if len(words) != 1:
+    if len(words) > 1:
         sys.exit(__doc__)
-    program = pathlib.Path(words[0]).resolve()
+    with tempfile.TemporaryDirectory() as built:
+        program = words[0] if words else build.built_crate(pathlib.Path(built), "pagable_derive")
+        check(pathlib.Path(program).resolve())
 
+
+def check(program):
+    """Makes all runs of the program."""
     def run(*arguments):
         done = subprocess.run([program, *map(str, arguments)], capture_output=True, text=True, timeout=60)
         return done.returncode, done.stdout, done.stderr
@@ -163,10 +174,10 @@ def main(words):
     with tempfile.TemporaryDirectory() as folder:
         work = pathlib.Path(folder)
         count = check_faults(run, work) + check_words(run, work) + check_folder(run, work)
-    declared, crate = CRATES / "pagable_derive/data/types.decl", CRATES / "declared_types"
+    crate = CRATES / "declared_types"
     # (until the crate is printed it is written by hand)
     if (crate / "src/lib.rt").exists() and (crate / "src/lib.rt").read_text().startswith("// Printed"):
-        expect(run("--check", declared, "declared_types", crate), (0, "", ""), "declared_types")
+        expect(run("--check", DECLARED, "declared_types", crate), (0, "", ""), "declared_types")
         count += 1
     print(f"declarations: {count} runs as they have to be")
 
