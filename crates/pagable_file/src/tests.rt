@@ -1,9 +1,6 @@
 use crate::file_blobs::FileBlobs;
-use crate::fsck::Flaw;
 use crate::listing::ListedBlob;
 use crate::stats::Stats;
-use blob_file::file::BlobFile;
-use blob_file::rows::Place;
 use pagable_codec::{Env, KeyHash};
 use pagable_core::{PagableData, PagableStorage, Roots, Sha256Key, WeighHash};
 use pagable_flavors::{DataKey, Error};
@@ -220,37 +217,6 @@ fn look_at_bytes(alloc: Global, bytes: &[u8]) -> Result<Blobs<Sha256Key>, Fail> 
 }
 
 #[test]
-fn a_look_at_a_cut_copy_shows_the_whole_flushes_and_writes_nothing(
-    rt: HostRuntime,
-) -> Result<(), Fail> {
-    let alloc = rt.alloc();
-    let mut blobs = open_bytes::<Sha256Key>(alloc, b"")?;
-    let body = blobs.store_data(alloc, blob_with(alloc, b"body", &[])?)?;
-    blobs.set_root(alloc, "main", Some(body))?;
-    blobs.flush()?;
-    let over = blobs.store_data(alloc, blob_with(alloc, b"over", &[BODY, BODY])?)?;
-    blobs.flush()?;
-    let disk = blobs.into_disk();
-    let whole = disk.bytes();
-    let cut = &whole[..whole.len() - 2];
-    let mut look = look_at_bytes(alloc, cut)?;
-    assert!(rt; look.contains(body));
-    assert!(rt; !look.contains(over));
-    assert!(rt; look.root("main")? == Some(body));
-    assert!(rt; look.store_data(alloc, blob_with(alloc, b"body", &[])?)? == body);
-    let refused = look.store_data(alloc, blob_with(alloc, b"more", &[])?);
-    assert!(rt; refused.err() == Some(Error::Storage(6)));
-    assert!(rt; look.set_root(alloc, "main", None).err() == Some(Error::Storage(6)));
-    assert!(rt; look.flush().is_ok());
-    let mut newer = Memory::new(alloc);
-    newer.write_at(0, whole)?;
-    assert!(rt; look.look_again(alloc, newer).is_ok());
-    assert!(rt; look.contains(over));
-    assert!(rt; look.into_disk().bytes() == whole);
-    Ok(())
-}
-
-#[test]
 fn a_look_leaves_each_byte_as_it_is(rt: HostRuntime) -> Result<(), Fail> {
     let alloc = rt.alloc();
     for file in [
@@ -291,76 +257,5 @@ fn what_waits_is_counted_and_listed(rt: HostRuntime) -> Result<(), Fail> {
     };
     assert_eq!(rt; listed.len(), 2);
     assert!(rt; listed.contains(&first) && listed.contains(&second));
-    Ok(())
-}
-
-/// Opens a file with these bodies under these numbers, each with so many child keys.
-fn file_of(alloc: Global, bodies: &[(u128, u32, &[u8])]) -> Result<Blobs<Sha256Key>, Fail> {
-    let Ok(mut file) = BlobFile::open(alloc, Memory::new(alloc)) else {
-        return Err(Fail::from("no file"));
-    };
-    for (number, children, body) in bodies {
-        if file.add(*number, *children, body).is_err() {
-            return Err(Fail::from("not added"));
-        }
-    }
-    match file.close(alloc) {
-        Ok(disk) => open_bytes(alloc, disk.bytes()),
-        Err(_) => Err(Fail::from("not closed")),
-    }
-}
-
-/// Opens a file whose name "main" stands for a key under which there is no blob.
-fn file_without_its_root(alloc: Global) -> Result<Blobs<Sha256Key>, Fail> {
-    let Ok(mut file) = BlobFile::open(alloc, Memory::new(alloc)) else {
-        return Err(Fail::from("no file"));
-    };
-    let place = Place {
-        at: 41,
-        children: 0,
-        bytes: 0,
-    };
-    file.index.places.insert(BODY, place)?;
-    if file.set_root(alloc, "main", Some(BODY)).is_err() {
-        return Err(Fail::from("no name"));
-    }
-    match file.close(alloc) {
-        Ok(disk) => open_bytes(alloc, disk.bytes()),
-        Err(_) => Err(Fail::from("not closed")),
-    }
-}
-
-/// Whether a check of the file finds these flaws.
-fn has_flaws(alloc: Global, mut blobs: Blobs<Sha256Key>, wanted: &[Flaw]) -> Result<bool, Fail> {
-    let found = blobs.fsck(alloc, &mut ())?;
-    Ok(found.as_slice() == wanted)
-}
-
-#[test]
-fn each_flaw_is_told(rt: HostRuntime) -> Result<(), Fail> {
-    let alloc = rt.alloc();
-    let (Some(body), Some(over)) = (DataKey::new(BODY), DataKey::new(OVER)) else {
-        return Err(Fail::from("a key of 0"));
-    };
-    let mut bytes = Vec::new(alloc);
-    bytes.extend_from_slice(&BODY.to_le_bytes())?;
-    bytes.extend_from_slice(&BODY.to_le_bytes())?;
-    bytes.extend_from_slice(b"over")?;
-    let both = [(BODY, 0, b"body".as_slice()), (OVER, 2, bytes.as_slice())];
-    assert!(rt; has_flaws(alloc, file_of(alloc, &both)?, &[])?);
-    let other = file_of(alloc, &[(BODY, 0, b"Body")])?;
-    assert!(rt; has_flaws(alloc, other, &[Flaw::WrongKey(body)])?);
-    let stray = file_of(alloc, &[(BODY, 1, &[0; 16])])?;
-    assert!(rt; has_flaws(alloc, stray, &[Flaw::StrayBlob(BODY)])?);
-    let zero = file_of(alloc, &[(0, 0, b"body")])?;
-    assert!(rt; has_flaws(alloc, zero, &[Flaw::StrayBlob(0)])?);
-    let alone = file_of(alloc, &[(OVER, 2, bytes.as_slice())])?;
-    let missing = [
-        Flaw::MissingChild(over, body),
-        Flaw::MissingChild(over, body),
-    ];
-    assert!(rt; has_flaws(alloc, alone, &missing)?);
-    let nameless = [Flaw::MissingRoot(String::from_str(alloc, "main")?, body)];
-    assert!(rt; has_flaws(alloc, file_without_its_root(alloc)?, &nameless)?);
     Ok(())
 }
