@@ -5,13 +5,18 @@ use Rattle.std.specs.{
   Arc.arc_value,
   Global.Global,
   HashMap.{HashMap, get},
-  Prelude.{List, Option, length, nat_eq, option_map, ℕ, ◌%◌, ◌+◌, ◌^◌, ◌≡◌},
+  Int.{from_le_bytes, w128},
+  Prelude.{List, Option, if◌then◌else◌, length, nat_eq, option_map, ℕ, ◌%◌, ◌+◌, ◌==◌, ◌^◌, ◌≡◌},
   declared.{hash.{BuildHasherDefault.BuildHasherDefault, FoldHasher.FoldHasher}, sync.Arc.Arc},
 }
 
 -- the blob without its place in memory
 abbrev pub blob_of : PagableData → Blob
 blob_of d = record { bytes = d.bytes.items; keys = d.arcs.items }
+
+-- the key of a blob whose preimage has this hash of sixteen bytes
+abbrev pub key_of_digest : List ℕ → ℕ
+key_of_digest digest = let n = from_le_bytes w128 digest in if n == 0 then 1 else n
 
 -- a map of blobs in memory; below: its blob under a key
 abbrev pub Blobs : Type 0

@@ -10,7 +10,7 @@ pub use context::reading::PagableDeserializerImpl;
 pub use context::references::{NoReferences, References, SessionOf};
 pub use context::setting::Setting;
 pub use context::writing::{PagableSerializerImpl, SerializedData, SerializerForPaging};
-pub use storage::data::PagableData;
+pub use storage::data::{PagableData, compute_keys};
 pub use storage::in_memory::InMemoryBlobs;
 pub use storage::roots::Roots;
 pub use storage::sha256::Sha256Key;

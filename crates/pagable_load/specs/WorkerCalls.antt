@@ -24,7 +24,7 @@ use Rattle.pagable_value_spec.specs.{
 }
 use Rattle.std.specs.{
   Arc.arc_value,
-  Prelude.{Bool, Err, IfErr, IfOk, None, Ok, OnOk, Option, Result, Some, false, length, true, ℕ, ◌≡◌, ◌≤◌, ◌⊎◌},
+  Prelude.{Bool, Err, IfErr, IfOk, None, Ok, OnOk, Option, Result, Some, false, length, true, ℕ, ◌+◌, ◌≡◌, ◌≤◌, ◌⊎◌},
 }
 
 -- the error of a result, if it is one
@@ -136,9 +136,14 @@ pub record PagesLeaf {N E : Type 0} (v : Values N) (s : PagerState N E) (place :
   pub has : EntryHas s.core place h OptionalDataKey.None
   pub pages : IsPagerWhole v s → EntryRun (plain v) s place answer t
 
--- the same with the answer of a call; or nothing was done
-abbrev pub PagesLeafIfThere : {N E : Type 0} → Values N → PagerState N E → ℕ → Result (Option ℕ) Error → PagerState N E
-    → Type 0
-PagesLeafIfThere v s place (Ok None) t = t ≡ s
-PagesLeafIfThere v s place (Ok (Some key)) t = PagesLeaf v s place (WorkerAnswer.Key key) t
-PagesLeafIfThere v s place (Err e) t = PagesLeaf v s place (WorkerAnswer.Failed e) t
+-- the entries below `left` down to `rest` are paged out so, one after the other, from the last of them
+pub data HasPagedLeaves {N E : Type 0} (v : Values N) (left : ℕ) (s : PagerState N E) : ℕ → PagerState N E → Type 0 where
+  no-leaf : HasPagedLeaves v left s left s
+  one-more-leaf : (place key : ℕ) (mid t : PagerState N E) → HasPagedLeaves v left s (place + 1) mid
+      → PagesLeaf v mid place (WorkerAnswer.Key key) t → HasPagedLeaves v left s place t
+
+-- the same with the answer of a call: how many entries are left, or the error of the first that failed
+abbrev pub PagesLeaves : {N E : Type 0} → Values N → PagerState N E → ℕ → Result ℕ Error → PagerState N E → Type 0
+PagesLeaves v s left (Ok rest) t = HasPagedLeaves v left s rest t
+PagesLeaves {N} {E} v s left (Err e) t = (place : ℕ) × (mid : PagerState N E) × HasPagedLeaves v left s (place + 1) mid
+    × PagesLeaf v mid place (WorkerAnswer.Failed e) t

@@ -7,7 +7,7 @@ ghost use Rattle.pagable_load.specs.{
   AccessView.{MakesCallBringing, TakesLazily},
   AccessView.{as_caller, as_worker, values_at},
   PinStart.{Shares, SharesStarted, StartsPin, ended_of, started_as},
-  WorkerCalls.{PagesLeafIfThere, RefusesEntry, ReleasesIfKeyed, SetsKeyAndReleases, SharesTaken, StartsEntry},
+  WorkerCalls.{PagesLeaves, RefusesEntry, ReleasesIfKeyed, SetsKeyAndReleases, SharesTaken, StartsEntry},
   WorkerCalls.{StoresNode, TakesReference, fault_in, taken_of},
 };
 ghost use Rattle.pagable_pager_spec.specs.{
@@ -382,6 +382,18 @@ pub trait WorkerAccess<E: Env<Node: NodeSet<E>>>: Access<E> {
     fn check_reference(&self, reference: ArcRef) -> Result<(), Error>
         ensures { IfKnown (Self.known_state self.now) (λ s. fault_in result ≡ claim_fault s.core reference) };
 
+    /// Does what `check_reference` does, of a reference of a value that this worker pins. An access
+    /// that tells no state may answer without a look: nothing changes such a reference meanwhile.
+    ///
+    /// # Errors
+    ///
+    /// - those of `check_reference`.
+    fn check_own_reference(&self, reference: ArcRef) -> Result<(), Error>
+        ensures { IfKnown (Self.known_state self.now) (λ s. fault_in result ≡ claim_fault s.core reference) }
+    {
+        self.check_reference(reference)
+    }
+
     /// Clones a reference's handle for the worker. If the clone is loose, pins its cell, or begins
     /// a load of the cell if the value isn't in memory.
     ///
@@ -535,17 +547,18 @@ pub trait WorkerAccess<E: Env<Node: NodeSet<E>>>: Access<E> {
             (λ a s t. ReleasesIfKeyed (values_at E.Node.NodeSet E.Env E.Hash.KeyHash a.environment) s a.me place
             result t) };
 
-    /// Pages out the entry at this place of the page-out list in one call, with the result of a
-    /// worker's steps, if its cell has no key and its value refers to nothing; returns the cell's
-    /// key. Returns None, and does nothing, if the entry isn't such a one, or the access doesn't
-    /// page out in one call.
+    /// Pages out entries of the page-out list without a worker each, with the result of the worker's
+    /// steps: those below `left`, from the last of them on, as long as their cells have no key and
+    /// their values refer to nothing. Returns how many entries are left below them. It may stop
+    /// earlier, and an access that pages out nothing so returns `left`.
     ///
     /// # Errors
     ///
-    /// - those of storing the blob. They leave the list as after the worker's steps: the entry has
-    ///   left its place, and stands at the list's end under a new handle if nothing pins its cell.
-    fn page_out_leaf(&mut self, alloc: Global, place: usize) -> Result<Option<DataKey>, Error>
-        ensures { Acts Self.known_state Self.acting self.old self.new
-            (λ a s t. PagesLeafIfThere (values_at E.Node.NodeSet E.Env E.Hash.KeyHash a.environment) s place
-            result t) };
+    /// - those of storing the blob of an entry; those after it in the list are paged out, and those
+    ///   before it are left. They leave the list as after the worker's steps: the entry has left its
+    ///   place, and stands at the list's end under a new handle if nothing pins its cell.
+    fn page_out_leaves(&mut self, alloc: Global, left: usize) -> Result<usize, Error>
+        ensures pages { Acts Self.known_state Self.acting self.old self.new
+            (λ a s t. PagesLeaves (values_at E.Node.NodeSet E.Env E.Hash.KeyHash a.environment) s left result t) }
+        ensures fewer { IfOk result (λ rest. rest ≤ left) };
 }

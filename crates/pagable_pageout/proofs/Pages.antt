@@ -1,6 +1,6 @@
 -- Page-outs of an item and of the entries of the list, from the runs of their workers.
 use Rattle.pagable_load.proofs.LoadSteps.{acts_same, acts_then}
-use Rattle.pagable_load.specs.{AccessView.{Acting, as_caller}, WorkerCalls.{PagesLeaf, RefusesEntry, ReleasesIfKeyed, StartsEntry}}
+use Rattle.pagable_load.specs.{AccessView.{Acting, as_caller}, WorkerCalls.{HasPagedLeaves, PagesLeaf, PagesLeaves, RefusesEntry, ReleasesIfKeyed, StartsEntry, no-leaf, one-more-leaf}}
 use Rattle.pagable_pageout.proofs.{
   Words.{Action, ArcRef, Bool, Environments, Equalities, Err, Error, HandleNumber, Hashes, IsPagerWhole, List, MakesCall, NeedsNoPager, Nodes, None, Ok},
   Words.{Option, Orders, Owner, PageOutError, PagerState, PartialOrders, Result, RunsToAnswer, SameShelf, Shelf, Some, Task, Todo, Values, WorkerAnswer},
@@ -9,7 +9,7 @@ use Rattle.pagable_pageout.proofs.{
   WorkerTurns.{alike, plain-fits, same-shelf},
 }
 use Rattle.pagable_pageout.specs.{
-  PageOuts.{HasPaged, PagesAt, PagesEntry, PagesEntryIfThere, PagesItem, PagesList, with_some_key},
+  PageOuts.{HasPaged, PagesAt, PagesEntry, PagesEntryIfThere, PagesItem, PagesLast, PagesList, with_some_key},
   Turns.{Fits, IsAlone, Walked},
 }
 use Rattle.pagable_pager_spec.specs.{
@@ -205,10 +205,6 @@ module _ {N E : Type 0} {v : Values N} where
         };
   }
 
-  pub at-no-leaf : (place : ℕ) (result : Result (Unit {0}) PageOutError) (s mid t : PagerState N E) → mid ≡ s → PagesAt v place result mid t
-      → PagesAt v place result s t
-  at-no-leaf place result s mid t same at = rw same at at
-
   -- ---- the list
 
   pub none-paged : (count : ℕ) (s : PagerState N E) → count ≡ length s.core.list → HasPaged v count s s
@@ -222,6 +218,50 @@ module _ {N E : Type 0} {v : Values N} where
       → PagesAt v place (Err why) mid t → PagesList v (Err why) s t
   ends-paged left place next why s mid t paged at = grind tests
 
+  -- the entries below `left` down to `rest`, as leaves
+  leaves-paged : (left : ℕ) (start s : PagerState N E) (rest : ℕ) (t : PagerState N E) → HasPagedLeaves v left s rest t → HasPaged v left start s → HasPaged v rest start t
+  leaves-paged left start s _ _ no-leaf paged = paged
+  leaves-paged left start s rest t (one-more-leaf place key mid u more leaf) paged =
+      more-paged (place + 1) place refl start mid u (leaves-paged left start s (place + 1) mid more paged) (at-leaf place key mid u leaf)
+
+  pub last-leaves : (left rest : ℕ) (s t : PagerState N E) → PagesLeaves v s left (Ok rest) t → PagesLast v left (Ok rest) s t
+  last-leaves left rest s t leaves = record { goes = λ start paged. leaves-paged left start s rest t leaves paged; stops = tt }
+
+  pub last-leaves-failed : (left : ℕ) (e : Error) (s t : PagerState N E) → PagesLeaves v s left (Err e) t
+      → PagesLast v left (Err (PageOutError.Failed e)) s t
+  last-leaves-failed left e s t (place, mid, leaves, failed) = record {
+    goes = tt;
+    stops = λ start paged.
+        ends-paged (place + 1) place refl (PageOutError.Failed e) start mid t (leaves-paged left start s (place + 1) mid leaves paged)
+        (at-leaf-failed place e mid t failed);
+  }
+
+  -- the last entry, where no leaf was paged out
+  pub last-paged : (left rest : ℕ) → left ≡ rest + 1 → (leaves : ℕ) → left ≤ leaves → leaves ≤ left → (s mid t : PagerState N E) → PagesLeaves v s left (Ok leaves) mid
+      → PagesAt v rest (Ok tt) mid t → PagesLast v left (Ok rest) s t
+  last-paged left rest next leaves least most s mid t none at =
+      let same : leaves ≡ left = omega arith in
+      record {
+        goes = λ start paged. more-paged left rest next start mid t (leaves-paged left start s left mid (rw same at none) paged) at;
+        stops = tt;
+      }
+
+  pub last-failed : (left rest : ℕ) → left ≡ rest + 1 → (leaves : ℕ) → left ≤ leaves → leaves ≤ left → (why : PageOutError) (s mid t : PagerState N E)
+      → PagesLeaves v s left (Ok leaves) mid → PagesAt v rest (Err why) mid t → PagesLast v left (Err why) s t
+  last-failed left rest next leaves least most why s mid t none at =
+      let same : leaves ≡ left = omega arith in
+      record {
+        goes = tt;
+        stops = λ start paged. ends-paged left rest next why start mid t (leaves-paged left start s left mid (rw same at none) paged) at;
+      }
+
+  pub goes-paged : (left rest : ℕ) (start s t : PagerState N E) → HasPaged v left start s → PagesLast v left (Ok rest) s t → HasPaged v rest start t
+  goes-paged left rest start s t paged last = last.goes start paged
+
+  pub stops-paged : (left : ℕ) (why : PageOutError) (start s t : PagerState N E) → HasPaged v left start s → PagesLast v left (Err why) s t
+      → PagesList v (Err why) start t
+  stops-paged left why start s t paged last = last.stops start paged
+
   pub all-paged : (left : ℕ) → left ≡ 0 → (s t : PagerState N E) → HasPaged v left s t → PagesList v (Ok tt) s t
   all-paged left none s t paged = record { over = λ whole. paged.then whole (Ok tt) t (rw none (no-more t)) }
 
@@ -231,6 +271,6 @@ pub ruleset entries = (tests, acts_map, entry-gone, entry-refused)
 
 pub ruleset places = (tests, acts_map, acts_then, at-released, at-done, at-failed)
 
-pub ruleset leaves = (tests, acts_map, acts_then, at-leaf, at-leaf-failed, at-no-leaf)
+pub ruleset leaves = (tests, acts_map, acts_then, last-leaves, last-leaves-failed, last-paged, last-failed)
 
-pub ruleset listed = (tests, acts_map, acts_then, tells_map, acts_same, none-paged, more-paged, ends-paged, all-paged)
+pub ruleset listed = (tests, acts_map, acts_then, tells_map, acts_same, none-paged, goes-paged, stops-paged, all-paged)

@@ -74,3 +74,10 @@ pub record HasPaged {N E : Type 0} (v : Values N) (left : ℕ) (s t : PagerState
   pub long : IsPagerWhole v s → left ≤ length t.core.list
   pub then : IsPagerWhole v s → (answer : Result (Unit {0}) WorkerAnswer) (u : PagerState N E)
       → ListRun (plain v) left t answer u → ListRun (plain v) (length s.core.list) s answer u
+
+-- a run of the entries below `left`, after those that were paged out before, goes on to the entries that are left, or
+-- ends here with a failure
+pub record PagesLast {N E : Type 0} (v : Values N) (left : ℕ) (result : Result ℕ PageOutError) (s t : PagerState N E)
+    : Type 0 where
+  pub goes : IfOk result (λ rest. (start : PagerState N E) → HasPaged v left start s → HasPaged v rest start t)
+  pub stops : IfErr result (λ why. (start : PagerState N E) → HasPaged v left start s → PagesList v (Err why) start t)

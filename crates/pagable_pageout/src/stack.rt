@@ -38,6 +38,7 @@ pub fn place_below(place: u64, kind: Kind) -> u64
 /// the node on the path, which has room for it, and returns the task that claims the reference; if
 /// all are done, returns the task that finishes the node, and leaves the path as it is.
 #[tactic(auto, using(crate::proofs::Stacks::settling))]
+#[inline(always)]
 pub fn advance<E: Env<Node: NodeSet<E>>>(
     path: &mut Vec<WaitingValue<E>>,
     waiting: WaitingValue<E>,
@@ -72,6 +73,7 @@ fn raise_height(node: Option<ClaimedNode>, kind: Kind, below: u64) -> Option<Cla
 
 // Returns a waiting node or item with the result of its next reference.
 #[tactic(auto, using(crate::proofs::Stacks::giving))]
+#[inline(always)]
 fn with_result<E: Env<Node: NodeSet<E>>>(
     waiting: WaitingValue<E>,
     done: DoneReference<E>,
@@ -94,6 +96,7 @@ fn with_result<E: Env<Node: NodeSet<E>>>(
 /// Pops the last entry of the path, which waits for this result, adds the result to it, and returns
 /// the next task as `advance` does. If the path is empty, hands `done` back as the error.
 #[tactic(auto, using(crate::proofs::Stacks::giving))]
+#[inline(always)]
 pub fn give_result<E: Env<Node: NodeSet<E>>>(
     path: &mut Vec<WaitingValue<E>>,
     done: DoneReference<E>,

@@ -4,14 +4,14 @@
 ghost use Rattle.pagable_load.specs.AccessView.{Acts, ActsThen, as_caller, values_at};
 ghost use Rattle.pagable_pageout.specs.{
   Joint.ActsBoth,
-  PageOuts.{PagesAt, PagesEntryIfThere, PagesItem, PagesList, answer_of, with_some_key},
+  PageOuts.{PagesAt, PagesEntryIfThere, PagesItem, PagesLast, PagesList, answer_of, with_some_key},
   Results.IsKeyOverResults,
   Slots.written_of,
   Tasks.{EachIsAwaited, EndsWithItem, IfKeyOf, KeepsItemOrGivesItsKey, LeavesLess, LowersWorkLeft, todo_of, todos},
   Turns.{EndsIfAnswered, PerformsStep, PerformsTask, RunsToAnswer, acting_after, todos_after},
 };
 ghost use Rattle.pagable_pager_spec.specs.{World.Written, declared.handle_row.Owner.Owner};
-ghost use Rattle.std.specs.{Arc.arc_value, Prelude.{IfOk, ◌∷◌, ◌≡◌}};
+ghost use Rattle.std.specs.{Arc.arc_value, Prelude.{IfOk, ◌<◌, ◌∷◌, ◌≡◌}};
 
 use crate::stack::{start_entry, start_item};
 use crate::stride::make_next_steps;
@@ -275,23 +275,32 @@ fn page_out_or_release<E: Env<Node: NodeSet<E>>, A: WorkerAccess<E>>(
     }
 }
 
-// Pages out the entry at an index of the list, in one call if its value refers to nothing and the
-// access can do so, else by a worker; or releases it if its cell has a key.
+// Pages out the last of the entries below `left`, or several from the last of them on, as the access
+// does without a worker; if it doesn't, the last one by a worker. Returns how many are left below.
 #[tactic(auto, using(crate::proofs::Pages::leaves))]
-fn page_out_at<E: Env<Node: NodeSet<E>>, A: WorkerAccess<E>>(
+fn page_out_last<E: Env<Node: NodeSet<E>>, A: WorkerAccess<E>>(
     access: &mut A,
     alloc: Global,
     table: &mut LentTable<E>,
-    place: usize,
-) -> Result<(), PageOutError>
+    left: usize,
+) -> Result<usize, PageOutError>
     requires caller { (A.acting access.old).me ≡ Owner.Caller }
-    ensures { Acts A.known_state A.acting access.old access.new
-        (λ a. PagesAt (values_at E.Node.NodeSet E.Env E.Hash.KeyHash a.environment) place result) }
+    requires some { 0 < left }
+    ensures pages { Acts A.known_state A.acting access.old access.new
+        (λ a. PagesLast (values_at E.Node.NodeSet E.Env E.Hash.KeyHash a.environment) left result) }
+    ensures fewer { IfOk result (λ rest. rest < left) }
 {
-    match access.page_out_leaf(alloc, place) {
-        Ok(None) => page_out_or_release(access, alloc, table, place),
-        Ok(Some(_)) => Ok(()),
+    match access.page_out_leaves(alloc, left) {
         Err(e) => Err(PageOutError::Failed(e)),
+        Ok(rest) => {
+            if rest < left {
+                return Ok(rest);
+            }
+            match page_out_or_release(access, alloc, table, left - 1) {
+                Ok(()) => Ok(left - 1),
+                Err(why) => Err(why),
+            }
+        }
     }
 }
 
@@ -314,9 +323,8 @@ pub fn page_out_pending_over<E: Env<Node: NodeSet<E>>, A: WorkerAccess<E>>(
     let mut table = LentTable::new(alloc);
     let mut left = access.pending();
     while left > 0 {
-        let place = left - 1;
-        match page_out_at(access, alloc, &mut table, place) {
-            Ok(()) => left = place,
+        match page_out_last(access, alloc, &mut table, left) {
+            Ok(rest) => left = rest,
             Err(why) => return Err(why),
         }
     }

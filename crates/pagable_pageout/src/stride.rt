@@ -1,7 +1,7 @@
 //! Strides of a walk: a worker's steps from one claim to the next, or those at a node whose
 //! references are done, made together, so that no task is kept between them.
 
-ghost use Rattle.pagable_load.specs.{AccessView.{Acts, IfKnown, values_at}, PinStart.Shares};
+ghost use Rattle.pagable_load.specs.{AccessView.{Acts, IfKnown, values_at}, PinStart.Shares, WorkerCalls.fault_in};
 ghost use Rattle.pagable_pageout.specs.{
   Joint.ActsBoth,
   Strides.{HandsOnResult, Strides, WalksTo},
@@ -12,7 +12,7 @@ ghost use Rattle.pagable_pageout.specs.{
 };
 ghost use Rattle.pagable_pager_spec.specs.{
   Access.IfBothKnown,
-  Workers.{with_changed_slot, with_outcome, with_wait},
+  Workers.{claim_fault, with_changed_slot, with_outcome, with_wait},
   World.{SameShelf, Shelf, published, to_pin, to_publish, to_start, to_write, was_refused},
 };
 ghost use Rattle.std.specs.{Arc.arc_value, Prelude.{None, Some, ℕ, ◌*◌, ◌+◌, ◌<◌, ◌∷◌, ◌≡◌}};
@@ -120,6 +120,21 @@ fn pin_and_write<E: Env<Node: NodeSet<E>>, A: WorkerAccess<E>, T: Claims<E>>(
     }
 }
 
+// Checks a reference before it is claimed: as a value's own if the last entry of the path is a node,
+// whose value the worker pins.
+fn check_claim<E: Env<Node: NodeSet<E>>, A: WorkerAccess<E>>(
+    access: &A,
+    path: &[WaitingValue<E>],
+    reference: ArcRef,
+) -> Result<(), Error>
+    ensures { IfKnown (A.known_state access.now) (λ s. fault_in result ≡ claim_fault s.core reference) }
+{
+    match path.last() {
+        Some(waiting) if waiting.node.is_some() => access.check_own_reference(reference),
+        _ => access.check_reference(reference),
+    }
+}
+
 // Claims what a reference names and, if it was free, pins and writes it as `pin_and_write` does.
 // Fails the worker with TooDeep if the claim would have to wait: no other worker makes steps
 // meanwhile.
@@ -142,7 +157,7 @@ fn claim_and_write<E: Env<Node: NodeSet<E>>, A: WorkerAccess<E>, T: Claims<E>>(
         (λ a s q s' q'. HasWalked (values_at E.Node.NodeSet E.Env E.Hash.KeyHash a.environment) a.me worker.0 q
         (Task.Start reference place) (todos path.old.items) q' result (todos path.new.items) s s') }
 {
-    let checked = access.check_reference(reference);
+    let checked = check_claim(access, path, reference);
     let found = claim(table, worker, reference, place, checked);
     match found {
         Ok(ClaimResult::Claimed) => pin_and_write(access, alloc, table, path, reference, place),

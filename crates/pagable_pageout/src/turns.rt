@@ -105,6 +105,7 @@ pub fn claim_answer<E: Env<Node: NodeSet<E>>>(
 /// to the last entry of the path, and returns that entry's next task; if the path is empty, returns
 /// the task that releases the worker's handles.
 #[tactic(auto, using(crate::proofs::Stacks::ways))]
+#[inline(always)]
 pub fn task_after_claim<E: Env<Node: NodeSet<E>>>(
     path: &mut Vec<WaitingValue<E>>,
     reference: ArcRef,

@@ -13,7 +13,7 @@ use Rattle.pagable_theorems.proofs.{
   ValuesOwned.pinned-here,
 }
 use Rattle.pagable_value_spec.specs.declared.numbers.{ArcRef.ArcRef, HandleNumber.HandleNumber, LoadNumber.LoadNumber}
-use Rattle.std.proofs.{Common.{List, None, Ok, Some, ap, arith, inl, inr, subst, sym, true, ℕ, ◌∙◌, ◌≡◌}, lemmas.Bool.Decides.nat_tests}
+use Rattle.std.proofs.{Common.{List, None, Ok, Some, ap, arith, inl, inr, true, ℕ, ◌∙◌, ◌≡◌}, lemmas.Bool.Decides.nat_tests}
 
 -- whoever calls is no value
 pub no-value : (w : Core) (me : Owner) → may_call w me ≡ true → NotValues me

@@ -42,10 +42,7 @@ use Rattle.pagable_theorems.proofs.{
   ValuesOwned.{IsRight, IsShut, Leaves, Rests, known-here, not-load, recalls, spared, spares-same, stayed, unmoved},
 }
 use Rattle.pagable_value_spec.specs.{Stored.{Adds, RefusesFetch, RefusesStore}, declared.numbers.{HandleNumber.HandleNumber, Kind.Kind, LoadNumber.LoadNumber}}
-use Rattle.std.proofs.{
-  Common.{Bool, Err, None, Ok, Option, Result, Some, ap, arith, false, if◌then◌else◌, inl, nat_eq, not, refl, rules, subst, sym, true, ℕ, ◌&&◌, ◌∙◌, ◌≡◌, ◌≤◌},
-  lemmas.Bool.Decides.nat_tests,
-}
+use Rattle.std.proofs.{Common.{Bool, Err, None, Ok, Option, Result, Some, ap, arith, false, if◌then◌else◌, inl, nat_eq, not, refl, rules, sym, true, ℕ, ◌&&◌, ◌∙◌, ◌≡◌, ◌≤◌}, lemmas.Bool.Decides.nat_tests}
 use Rattle.std.specs.{Arc.arc_value, Option.option_map, Prelude.{IfErr, IfOk, IsTrue, OnErr, OnOk, is_some, nat_lt, ◌⊎◌}}
 use Rattle.pagable_pager_spec.specs.Pager as pager
 

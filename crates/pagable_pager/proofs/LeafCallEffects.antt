@@ -1,32 +1,10 @@
 -- The calls by which a leaf is paged out in one call, one after the other: what they leave together.
-use Rattle.pagable_pager_spec.specs.{
-  Basics.{Among, Error, HandleNumber, NodeNumber, OptionalDataKey, changed, if_there, is_pinned_kind, one, or_else, times, updated},
-  Calls.{CloneCall, IsRefused, ReleaseCall, ScheduleCall, SetKeyCall, TakeCall, moved, row_of, with_handle, with_key},
-  Cascade.{Falls, is_keyed, is_outside, left_rows, nobody, only_handle},
-  Events.IsEntry,
-  Kinds.{any_mode, find_row, held, is_at, is_handle, is_in_memory, is_loose, is_owned_by, is_owner, is_pin, is_unpinned, pins},
-  Pager.{IsPagerWhole, IsWhole, PagerState},
-  Refusals.{Owns, handle_fault},
-  World.{Alike, Cell, Core, Last, SameCache, Values, greatest, key_at, row_at, type_at, usable},
-  declared.{handle_row.{HandleRow.HandleRow, Owner.Owner}, mode.Mode.Mode},
-}
-use Rattle.pagable_theorems.proofs.{
-  HandlesKept.{among-changed, among-found, find-both, found-after, found-number, none-in-next, once, same-owner, stands-new},
-  Trees.{same-number, same_some, self-number},
-}
+use Rattle.pagable_pager_spec.specs.{Basics.{Among, Error, HandleNumber, NodeNumber, if_there, is_pinned_kind, one, or_else}, Calls.{CloneCall, ReleaseCall, ScheduleCall, SetKeyCall, TakeCall, moved, row_of, with_handle, with_key}, Cascade.{Falls, is_keyed, is_outside, left_rows, nobody, only_handle}, Events.IsEntry, Kinds.{find_row, held, is_at, is_in_memory, is_loose, is_pin, is_unpinned, pins}, Pager.{IsPagerWhole, PagerState}, Refusals.{handle_fault}, World.{Alike, Cell, Core, Last, SameCache, Values, row_at, usable}, declared.{handle_row.{HandleRow.HandleRow, Owner.Owner}, mode.Mode.Mode}}
+use Rattle.pagable_theorems.proofs.{HandlesKept.{among-found, find-both, found-after, once, stands-new}, Trees.{same-number, same_some, self-number}}
 use Rattle.pagable_pager.specs.LeafPageOut.{new_entry, with_entry_paged, with_entry_relisted}
-use Rattle.pagable_pager.proofs.{
-  ReleasedAlone.{ListStays, UnpinsNone, alone, closed-beside, fell-alone, filter-alike, filter-whole, sum-alike, times-left, unpins-beside},
-  LeafWorkerSteps.{alike-self, entry-row, list-row},
-}
-use Rattle.std.proofs.{
-  Common.{Bool, Err, List, None, Ok, Option, Result, Some, ap, arith, false, filter, if◌then◌else◌, inl, inr, length, map, not, refl, subst, suc, sum_by},
-  Common.{sym, true, ℕ, [], ◌&&◌, ◌++◌},
-  Common.{◌+◌, ◌<◌, ◌==◌, ◌∙◌, ◌∷◌, ◌≡◌, ◌≤◌, ◌⊎◌},
-  lemmas.Bool.{Decides.nat_tests, and_parts, cases_Bool, false_from_ne_true},
-  lemmas.{List.{Edits.length-remove, Sums.{sum_by-append, sum_by-cons, sum_by_push}, append-nil}, Option.slice_get_within},
-}
-use Rattle.std.specs.{List.remove, Prelude.{is_some, nat_eq, nat_lt, slice_get}}
+use Rattle.pagable_pager.proofs.{ReleasedAlone.{ListStays, UnpinsNone, alone, closed-beside, fell-alone, filter-whole, sum-alike, times-left}, LeafWorkerSteps.{entry-row, list-row}}
+use Rattle.std.proofs.{Common.{Bool, Err, List, None, Ok, Option, Result, Some, ap, arith, false, if◌then◌else◌, inl, inr, length, not, refl, subst, suc}, Common.{sym, true, ℕ, [], ◌&&◌, ◌++◌}, Common.{◌+◌, ◌==◌, ◌∙◌, ◌∷◌, ◌≡◌, ◌≤◌}, lemmas.Bool.{Decides.nat_tests, false_from_ne_true}, lemmas.{List.{Edits.length-remove, Sums.{sum_by-cons, sum_by_push}, append-nil}, Option.slice_get_within}}
+use Rattle.std.specs.{List.remove, Prelude.{nat_lt}}
 
 ruleset basics = (arith, nat_tests)
 

@@ -23,10 +23,7 @@ use Rattle.pagable_tables.specs.{
 }
 use Rattle.pagable_theorems.proofs.ValuesOwned.{begins, installed_away, load_closed, spared}
 use Rattle.pagable_value_spec.specs.declared.numbers.{HandleNumber.HandleNumber, LoadNumber.LoadNumber}
-use Rattle.std.proofs.{
-  Common.{None, Ok, Some, ap, arith, if◌then◌else◌, inl, refl, subst, sym, true, ℕ, [], ◌&&◌, ◌+◌, ◌∙◌, ◌≡◌},
-  lemmas.{Bool.{Decides.nat_tests, cases_eq}, List.Sums.sum_by_push},
-}
+use Rattle.std.proofs.{Common.{None, Ok, Some, ap, arith, if◌then◌else◌, inl, refl, sym, true, ℕ, [], ◌&&◌, ◌+◌, ◌∙◌, ◌≡◌}, lemmas.{Bool.{Decides.nat_tests, cases_eq}, List.Sums.sum_by_push}}
 use Rattle.std.specs.Prelude.{is_some, ◌⊎◌}
 
 module _ {N S E H K V : Type 0} {tells : Storages S E N H K V} {says : E → Values N} {p : PagerView N S E} (is : IsPager tells says p) where

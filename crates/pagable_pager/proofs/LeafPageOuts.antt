@@ -1,5 +1,5 @@
 -- What the pager's calls leave that page out a leaf of the list, and the worker's run with the same result.
-use Rattle.pagable_load.specs.WorkerCalls.{PagesLeaf, plain}
+use Rattle.pagable_load.specs.WorkerCalls.{PagesLeaf}
 use Rattle.pagable_pager.proofs.{
   LeafCallEffects.{leaves-paged, leaves-relisted, leaves-unlisted, own-live, pins-moved, taken, takes-entry},
   LeafWorker.{begun-whole, cloned-whole, pinned-keyed, pinned-stored, pinned-whole},
@@ -25,10 +25,7 @@ use Rattle.pagable_tables.specs.{
 }
 use Rattle.pagable_theorems.proofs.ValuesOwned.{IsShut, Rests}
 use Rattle.pagable_value_spec.specs.{Merkle.blob_of, declared.numbers.{HandleNumber.HandleNumber, NodeNumber.NodeNumber}}
-use Rattle.std.proofs.{
-  Common.{Err, List, None, Ok, Result, Some, ap, arith, false, if◌then◌else◌, inl, inr, length, refl, subst, sym, true, ℕ, [], ◌+◌, ◌<◌, ◌∙◌, ◌∷◌, ◌≡◌, ◌≤◌},
-  lemmas.{Bool.{Decides.nat_tests, false_from_ne_true}, List.length-map, Option.slice_get_within},
-}
+use Rattle.std.proofs.{Common.{Err, List, Ok, Result, Some, ap, arith, false, if◌then◌else◌, inl, inr, length, refl, subst, sym, true, ℕ, [], ◌<◌, ◌∙◌, ◌∷◌, ◌≡◌}, lemmas.{Bool.{Decides.nat_tests, false_from_ne_true}, List.length-map, Option.slice_get_within}}
 
 ruleset basics = (arith, nat_tests)
 

@@ -6,15 +6,7 @@ use Rattle.pagable_pager.specs.{
   Leaf.{LeafBegun, LeafDropped, LeafFetched, LeafLoads, LeafPinned, LeafUnbegun},
   View.{AsksStorage, ChangesOnlyStorage, ChangesOnlyTables, IsPager, PagerView, Storages, ValuesByNode, pager_core, pager_state, storage_view, value_in},
 }
-use Rattle.pagable_pager_spec.specs.{
-  Access.{PinRun, load-is-refused},
-  Basics.{Blob, SameAt},
-  Calls.{FetchCall, with_handle},
-  LoadCalls.BeginCall,
-  Pager.{IsPagerWhole, PagerState},
-  World.{Alike, Core, Values, is_here, of_cell, type_at},
-  declared.{handle_row.{HandleRow.HandleRow, Owner.Owner}, mode.Mode.Mode, pinning.Beginning.Beginning},
-}
+use Rattle.pagable_pager_spec.specs.{Access.{PinRun, load-is-refused}, Basics.{Blob, SameAt}, Calls.{FetchCall, with_handle}, LoadCalls.BeginCall, Pager.{IsPagerWhole, PagerState}, World.{Core, Values, is_here, of_cell, type_at}, declared.{handle_row.{HandleRow.HandleRow, Owner.Owner}, mode.Mode.Mode, pinning.Beginning.Beginning}}
 use Rattle.pagable_tables.proofs.SameViews.{alike-on, room-alike}
 use Rattle.pagable_tables.specs.{
   Core.{Does, OnlyRoom, StorageView, core_alone, core_of, no_blobs},
@@ -24,10 +16,7 @@ use Rattle.pagable_tables.specs.{
 }
 use Rattle.pagable_theorems.proofs.{LoadProgress.row-pins, Trees.same_some, ValuesOwned.pinned-here}
 use Rattle.pagable_value_spec.specs.declared.{error.Error.Error, numbers.{HandleNumber.HandleNumber, LoadNumber.LoadNumber}}
-use Rattle.std.proofs.{
-  Common.{Bool, Err, List, Ok, Result, Some, ap, arith, false, inl, inr, refl, subst, sym, true, ℕ, [], ◌∙◌, ◌≡◌, ◌≤◌},
-  lemmas.Bool.Decides.nat_tests,
-}
+use Rattle.std.proofs.{Common.{Err, List, Ok, Result, Some, ap, arith, false, inl, inr, refl, subst, sym, true, ℕ, [], ◌∙◌, ◌≡◌, ◌≤◌}, lemmas.Bool.Decides.nat_tests}
 use Rattle.std.specs.Prelude.{length}
 use Rattle.pagable_pager_spec.specs.Pager as pager
 

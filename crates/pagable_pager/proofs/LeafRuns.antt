@@ -16,15 +16,9 @@ use Rattle.pagable_pager_spec.specs.{
   declared.{events.LoadAnswer.LoadAnswer, handle_row.Owner.Owner, mode.Mode.Mode, pinning.Beginning.Beginning},
 }
 use Rattle.pagable_tables.{proofs.SameViews.still, specs.declared.leaf.Leaf.Leaf}
-use Rattle.pagable_value_spec.specs.{
-  Stored.RefusesFetch,
-  declared.{error.Error.Error, numbers.{ArcRef.ArcRef, HandleNumber.HandleNumber, LoadNumber.LoadNumber, NodeNumber.NodeNumber}},
-}
-use Rattle.std.proofs.{
-  Common.{Err, List, None, Ok, Result, Some, ap, arith, inl, inr, refl, subst, sym, ℕ, [], ◌++◌, ◌+◌, ◌∙◌, ◌∷◌, ◌≡◌, ◌≤◌},
-  lemmas.{Bool.Decides.nat_tests, List.Sums.sum_by_push},
-}
-use Rattle.std.specs.Prelude.{IfErr, slice_get}
+use Rattle.pagable_value_spec.specs.{declared.{error.Error.Error, numbers.{HandleNumber.HandleNumber, LoadNumber.LoadNumber, NodeNumber.NodeNumber}}}
+use Rattle.std.proofs.{Common.{Err, List, None, Ok, Result, Some, ap, arith, inl, inr, refl, subst, sym, ℕ, [], ◌++◌, ◌+◌, ◌∙◌, ◌∷◌, ◌≡◌}, lemmas.{Bool.Decides.nat_tests, List.Sums.sum_by_push}}
+use Rattle.std.specs.Prelude.{slice_get}
 
 -- ---- a load that begins once the blob has come is one that began before, and got it
 

@@ -1,31 +1,14 @@
 -- The states of a worker that takes an entry of the list, clones its handle, pins the cell, and sets its key are whole.
-use Rattle.pagable_pager_spec.specs.{
-  Basics.{Among, Blob, HandleNumber, NodeNumber},
-  Calls.{moved, with_handle, with_key, with_mode, row_of},
-  Cascade.only_handle,
-  Events.{with_entry_taken, with_worker},
-  Kinds.{find_row, is_handle, is_loose, is_shared, owner_worker},
-  Pager.{IsWhole, MayOwnLoad},
-  Refusals.Owns,
-  World.{Alike, Core, greatest, row_at},
-  declared.{handle_row.{HandleRow.HandleRow, Owner.Owner}, mode.Mode.Mode},
-}
-use Rattle.pagable_tables.proofs.{
-  CallsKeepWhole.{keyed-whole, take-whole, worker-whole},
-  RowCounts.{HasLike, among-last},
-  Views.{beside, loose-unshared, opened, pin-comes, roomy, settles},
-}
-use Rattle.pagable_tables.specs.Core.{ArePlaced, MayOwnHandle}
+use Rattle.pagable_pager_spec.specs.{Basics.{Blob, HandleNumber}, Calls.{with_handle, with_key, with_mode, row_of}, Cascade.only_handle, Events.{with_entry_taken, with_worker}, Kinds.{is_handle, is_loose, is_shared, owner_worker}, Pager.{IsWhole, MayOwnLoad}, World.{Core, greatest, row_at}, declared.{handle_row.{HandleRow.HandleRow, Owner.Owner}, mode.Mode.Mode}}
+use Rattle.pagable_tables.proofs.{CallsKeepWhole.{keyed-whole, take-whole, worker-whole}, RowCounts.{HasLike, among-last}, Views.{beside, opened, pin-comes, roomy, settles}}
+use Rattle.pagable_tables.specs.Core.{MayOwnHandle}
 use Rattle.pagable_theorems.proofs.{
   HandlesKept.{among-found, found-after, stands-new},
   Trees.self-number,
 }
-use Rattle.pagable_pager.proofs.LeafWorkerSteps.{alike-self, entry-row}
-use Rattle.std.proofs.{
-  Common.{Bool, List, Some, ap, arith, false, if◌then◌else◌, length, refl, subst, sym, true, ℕ, [], ◌++◌, ◌+◌, ◌<◌, ◌∙◌, ◌∷◌, ◌≡◌, ◌≤◌},
-  lemmas.{Bool.Decides.nat_tests, List.{Edits.length-remove, length-append, length-map}, Option.slice_get_within},
-}
-use Rattle.std.specs.{List.remove, Prelude.{Option, slice_get}}
+use Rattle.pagable_pager.proofs.LeafWorkerSteps.{alike-self}
+use Rattle.std.proofs.{Common.{Bool, Some, ap, arith, false, if◌then◌else◌, length, refl, subst, sym, true, ℕ, [], ◌+◌, ◌<◌, ◌∙◌, ◌∷◌, ◌≡◌, ◌≤◌}, lemmas.{Bool.Decides.nat_tests, List.{Edits.length-remove, length-append, length-map}, Option.slice_get_within}}
+use Rattle.std.specs.{Prelude.{Option, slice_get}}
 
 ruleset basics = (arith, nat_tests)
 

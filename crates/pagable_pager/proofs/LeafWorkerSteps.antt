@@ -1,37 +1,9 @@
 -- A leaf of the page-out list that is paged out in one call: the steps of the worker that leave the same state.
-use Rattle.pagable_pager_spec.specs.{
-  Access.{AccessState, EntryRun, WalkStep, WorkerRun, WorkerStarts, entry-is-walked, worker-ends, worker-goes-on},
-  Basics.{Among, ArcRef, Blob, Error, HandleNumber, Identity, LoadNumber, NodeNumber, OptionalDataKey, WorkerNumber, changed, if_there, is_loose_kind},
-  Basics.{one, times, type_of},
-  Basics.{or_else, updated},
-  Calls.{CloneCall, IsNext, PinCall, SetKeyCall, StoreCall, Stores, moved, row_of, with_handle, with_key, with_mode},
-  Cascade.{AreNewEntries, Falls, FallsAnyhow, IsClosed, MustList, fallen, is_keyed, is_outside, left_rows, nobody, only_handle},
-  Events.{Ends, IsEntry, entry_task, no_shelf, with_entry_taken, with_worker},
-  Kinds.{HasKinds, find_row, fits_mode, held, identity_of, is_at, is_handle, is_loose, is_owned_by, is_owner, is_pin, is_share, loose_kind, owner_worker},
-  Kinds.{pins, sharing},
-  Pager.{IsPagerWhole, IsWhole, IsWrittenOf, MayOwnLoad, Moves, PagerState, TookWrites},
-  Refusals.Owns,
-  Workers.{WalkDoes, WorkDoes, WorkerEnds, WorkerState, answer_after, claim_fault, first_todo, is_workers, is_workers_at, is_load_of, is_workers_load},
-  Workers.{with_changed_slot, with_outcome},
-  Workers.{with_failed, with_slot, with_wait, without_worker},
-  World.{Alike, Cell, Core, HasForm, Last, OpenLoad, SameShelf, Seen, Shelf, Slot, Todo, Values, Written, digest, greatest, is_here, key_at, no_result},
-  World.published,
-  World.{row_at, to_fail, to_finish, to_pin, to_publish, to_release, to_set, to_start, to_write, type_at, was_refused},
-  declared.{events.{Action.Action, Claim.Claim, PinStep.PinStep, WorkerAnswer.WorkerAnswer}, handle_row.{HandleRow.HandleRow, Owner.Owner}, mode.Mode.Mode},
-  declared.pinning.Pinning.Pinning,
-}
+use Rattle.pagable_pager_spec.specs.{Access.{AccessState, EntryRun, WalkStep, WorkerStarts, entry-is-walked, worker-ends, worker-goes-on}, Basics.{Among, ArcRef, Blob, Error, HandleNumber, OptionalDataKey, changed, if_there, is_loose_kind}, Basics.{one, times, type_of}, Basics.{or_else, updated}, Calls.{CloneCall, PinCall, SetKeyCall, StoreCall, moved, row_of, with_handle, with_key, with_mode}, Cascade.{AreNewEntries, FallsAnyhow, IsClosed, MustList, fallen, is_keyed, is_outside, left_rows, nobody, only_handle}, Events.{Ends, IsEntry, no_shelf, with_entry_taken, with_worker}, Kinds.{HasKinds, find_row, held, identity_of, is_at, is_handle, is_loose, is_owned_by, is_owner, is_pin, is_share, loose_kind, owner_worker}, Kinds.{pins, sharing}, Pager.{IsPagerWhole, IsWhole, MayOwnLoad, PagerState, TookWrites}, Workers.{WorkDoes, WorkerEnds, answer_after, claim_fault, is_workers, is_workers_at, is_load_of, is_workers_load}, Workers.{with_changed_slot, with_outcome}, Workers.{with_failed, with_slot, with_wait, without_worker}, World.{Alike, Core, HasForm, OpenLoad, SameShelf, Seen, Shelf, Slot, Todo, Values, Written, digest, greatest, is_here, key_at, no_result}, World.published, World.{row_at, to_fail, to_finish, to_pin, to_publish, to_release, to_set, to_start, to_write, was_refused}, declared.{events.{Action.Action, Claim.Claim, PinStep.PinStep, WorkerAnswer.WorkerAnswer}, handle_row.{HandleRow.HandleRow, Owner.Owner}, mode.Mode.Mode}, declared.pinning.Pinning.Pinning}
 use Rattle.pagable_pager_spec.proofs.Elements.{among-left}
-use Rattle.pagable_theorems.proofs.{
-  CascadeWitness.within-self,
-  Decoding.among-either,
-  HandlesKept.{NotValues, among-changed, among-found, find-both, found-after, found-number, once, only-one, same-owner, stands-new, stands-whole},
-  StepBounds.found,
-  Trees.{at-most-sum, counted, one-true, same-number, self-number, sum-le},
-  ValueRows.{owns-same},
-  ValuesOwned.{clones, pins-it, spared, spares-same, starts-listed},
-}
+use Rattle.pagable_theorems.proofs.{CascadeWitness.within-self, Decoding.among-either, HandlesKept.{NotValues, among-changed, among-found, find-both, found-after, once, only-one, same-owner, stands-new}, StepBounds.found, Trees.{at-most-sum, counted, one-true, same-number, self-number, sum-le}, ValueRows.{owns-same}, ValuesOwned.{clones, pins-it, spared, spares-same, starts-listed}}
 use Rattle.pagable_value_spec.specs.Merkle.{blob_of}
-use Rattle.pagable_pager.specs.LeafPageOut.{AreNewFor, new_entry, with_entry_paged, with_entry_relisted}
+use Rattle.pagable_pager.specs.LeafPageOut.{AreNewFor, with_entry_paged, with_entry_relisted}
 use Rattle.pagable_pager.proofs.ReleasedAlone.{
   ListStays,
   UnpinsNone,
@@ -44,14 +16,8 @@ use Rattle.pagable_pager.proofs.ReleasedAlone.{
   times-left,
   unpins-beside,
 }
-use Rattle.std.proofs.{
-  Common.{Bool, Err, List, None, Ok, Option, Result, Some, ap, arith, false, filter, if◌then◌else◌, inl, inr, length, map, not, refl, subst, suc, sum_by},
-  Common.{sym, true, ℕ, [], ◌&&◌, ◌++◌, ◌+◌, ◌<◌, ◌==◌, ◌||◌},
-  Common.{◌∙◌, ◌∷◌, ◌≡◌, ◌≤◌, ◌⊎◌},
-  lemmas.{Bool.{Decides.nat_tests, and_parts, cases_Bool, false_from_ne_true}, Option.slice_get_within},
-  lemmas.List.{Sums.{sum_by-append, sum_by-cons, sum_by_push}, append-nil},
-}
-use Rattle.std.specs.{List.remove, Prelude.{is_some, nat_eq, nat_lt, slice_get}}
+use Rattle.std.proofs.{Common.{Bool, Err, List, None, Ok, Option, Some, ap, arith, false, filter, if◌then◌else◌, inl, inr, length, map, not, refl, subst, suc}, Common.{sym, true, ℕ, [], ◌&&◌, ◌++◌, ◌+◌, ◌<◌, ◌==◌, ◌||◌}, Common.{◌∙◌, ◌∷◌, ◌≡◌, ◌≤◌}, lemmas.{Bool.{Decides.nat_tests, and_parts, cases_Bool, false_from_ne_true}, Option.slice_get_within}, lemmas.List.{Sums.{sum_by-append, sum_by_push}}}
+use Rattle.std.specs.{List.remove, Prelude.{nat_lt}}
 
 ruleset basics = (arith, nat_tests)
 

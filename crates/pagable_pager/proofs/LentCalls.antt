@@ -3,10 +3,7 @@ use Rattle.either.specs.declared.Either.{Either}
 use Rattle.pagable_load.proofs.PinsAndReads.{begun_is}
 use Rattle.pagable_load.specs.{AccessView.{AsksFor, IfKnown, IsMade, MakesCallBringing}, PinStart.StartsPin, declared.access.PinStart.PinStart}
 use Rattle.pagable_pager.proofs.Invariant.{in-step, less, swept}
-use Rattle.pagable_pager.specs.{
-  View.{Calls, ChangesOnlyStorage, FewerValues, IsPager, KeepsWorkers, PagerView, SameValues, Storages, TakesEntry, ValuesByNode, from_cache_or_store},
-  View.{may_call, pager_core, pager_state, value_in},
-}
+use Rattle.pagable_pager.specs.{View.{Calls, ChangesOnlyStorage, FewerValues, IsPager, KeepsWorkers, PagerView, SameValues, Storages, TakesEntry, ValuesByNode, from_cache_or_store}, View.{may_call, pager_core, pager_state}}
 use Rattle.pagable_pager_spec.specs.{
   Access.{IfBothKnown, MakesCall},
   Basics.{Blob, Error, or_else, type_of},

@@ -1,15 +1,6 @@
 -- Pins on a lent pager: a load's steps from its root's blob, and the value that a new pin shares.
 use Rattle.pagable_load.proofs.{Keyed.{own_type, root_comes}, PinsAndReads.{taken_back, takes_back}}
-use Rattle.pagable_load.specs.{
-  Decoding.IsReadAs,
-  AccessView.IfKnown,
-  Frames.{IsLoadOf, frames_of, reading_of},
-  Keyed.{FramesKeyed, IsEndKeyed, IsKeyed},
-  LoadSteps.RunsLoad,
-  Outcomes.GivesValue,
-  PinStart.{SharesPinned, TakesBack, is_unpinned_at},
-  declared.reading.{LoadOutcome.LoadOutcome, Reading.Reading as Own},
-}
+use Rattle.pagable_load.specs.{Decoding.IsReadAs, AccessView.IfKnown, Frames.{IsLoadOf, frames_of, reading_of}, Keyed.{FramesKeyed, IsEndKeyed, IsKeyed}, LoadSteps.RunsLoad, Outcomes.GivesValue, PinStart.{SharesPinned, TakesBack}, declared.reading.{LoadOutcome.LoadOutcome, Reading.Reading as Own}}
 use Rattle.pagable_pager.proofs.LeafPins.{dropped-run, loads-pinned, loads-refused, pinned-run}
 use Rattle.pagable_pager.specs.Leaf.{EndsCellLoad, LeafBegun, LeafDropped, LeafFetched, LeafLoads, LeafPinned, PinsPagedOut, SharesOrUndoes, rooted_reading}
 use Rattle.pagable_pager_spec.specs.{

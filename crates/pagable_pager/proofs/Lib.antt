@@ -8,6 +8,7 @@ pub mod LeafWorkerSteps
 pub mod LeafWorker
 pub mod LeafCallEffects
 pub mod LeafPageOuts
+pub mod LeafBatches
 pub mod LeafRuns
 pub mod LeafPins
 pub mod LentPins

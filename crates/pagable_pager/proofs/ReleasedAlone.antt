@@ -1,25 +1,8 @@
 -- Handles that are released where nothing follows: what is left then, and the other way round.
-use Rattle.pagable_pager_spec.specs.{
-  Basics.{Among, Error, HandleNumber, one, times},
-  Cascade.{Falls, IsClosed, IsWithin, MustList, fallen, is_keyed, is_outside, left_rows, loses_value, nobody, owned_outside},
-  Kinds.{held, is_at, is_owned_by, is_pin, owner_value, pins},
-  Pager.{IsPagerWhole, IsWhole, PagerState},
-  World.{Alike, Core, Last, Values, greatest, is_here},
-  declared.handle_row.HandleRow.HandleRow,
-}
-use Rattle.pagable_theorems.proofs.{
-  CascadeWitness.{inside, within-self},
-  HandlesKept.{none-found, found-number, among-found, same-owner},
-  Trees.{at-most-sum, counted, same-number, sum-le, sum-zero},
-  ValueRows.{At, Has, sits},
-}
-use Rattle.std.proofs.{
-  Common.{Bool, Err, List, None, Ok, Option, Result, Some, ap, arith, false, filter, if◌then◌else◌, inl, inr, length, map, not, refl, subst, suc, sum_by},
-  Common.{sym, true, ℕ, [], ◌&&◌, ◌++◌, ◌+◌, ◌<◌, ◌==◌},
-  Common.{◌∙◌, ◌∷◌, ◌≡◌, ◌≤◌, ◌⊎◌},
-  lemmas.{Bool.{Decides.nat_tests, cases_Bool, false_from_ne_true}, List.{Sums.{sum_by-append, sum_by-cons}, append-nil}},
-}
-use Rattle.std.specs.Prelude.{nat_eq, nat_lt, slice_get}
+use Rattle.pagable_pager_spec.specs.{Basics.{Among, Error, HandleNumber, one, times}, Cascade.{Falls, IsClosed, MustList, fallen, is_keyed, is_outside, left_rows}, Kinds.{held, is_at, is_owned_by, is_pin, owner_value, pins}, Pager.{IsPagerWhole, PagerState}, World.{Alike, Core, Values, greatest}, declared.handle_row.HandleRow.HandleRow}
+use Rattle.pagable_theorems.proofs.{CascadeWitness.{inside, within-self}, HandlesKept.{same-owner}, Trees.{same-number, sum-le, sum-zero}, ValueRows.{At, Has, sits}}
+use Rattle.std.proofs.{Common.{Bool, List, None, Ok, Option, Result, Some, ap, arith, false, filter, if◌then◌else◌, length, map, not, refl, subst, suc, sum_by}, Common.{sym, true, ℕ, [], ◌&&◌, ◌++◌, ◌+◌, ◌<◌, ◌==◌}, Common.{◌∙◌, ◌∷◌, ◌≡◌, ◌≤◌}, lemmas.{Bool.{Decides.nat_tests, false_from_ne_true}, List.{Sums.{sum_by-append, sum_by-cons}, append-nil}}}
+use Rattle.std.specs.Prelude.{nat_lt, slice_get}
 
 ruleset basics = (arith, nat_tests)
 

@@ -495,8 +495,8 @@ impl<'a, E: Env<Node: NodeSet<E>>, S: PagableStorage<E>> WorkerAccess<E> for Len
         Some(true)
     }
 
-    fn page_out_leaf(&mut self, alloc: Global, place: usize) -> Result<Option<DataKey>, Error> {
-        with_invariant(self.pager.page_out_leaf(alloc, place), self.pager)
+    fn page_out_leaves(&mut self, alloc: Global, left: usize) -> Result<usize, Error> {
+        with_invariant(self.pager.page_out_leaves(alloc, left), self.pager)
     }
 }
 

@@ -9,4 +9,5 @@ mod setting;
 
 pub use lent::{ArcCell, DeserializedArcCache, Lent};
 pub use pager::Pager;
+pub use pager::stats::PagerStats;
 pub use pins::{pin, pin_with_key};

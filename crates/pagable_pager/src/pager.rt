@@ -31,6 +31,7 @@ pub mod insert;
 pub mod leaf;
 pub mod leaf_page_out;
 pub mod roots;
+pub mod stats;
 
 use crate::setting::PagerSetting;
 use either::Either;

@@ -25,7 +25,7 @@ returns-in-Ok-Claimed-clause-acts g c =
     both-on (both-second {D = λ a s q s' q'. HasWalked {g = g.E.Env} {gh = g.E.Hash.KeyHash} {go = g.E.CtxKey.Ord} {gq = g.E.CtxKey.PartialEq}
     {gp = g.E.CtxKey.PartialOrd} {gn = g.E.Node.NodeSet} (values_at g.E.Node.NodeSet g.E.Env g.E.Hash.KeyHash a.environment) a.me c.args.worker.0 q
     (Task.Start c.args.reference c.args.place) (todos c.args.path.now.items) q' (Task.Pin c.args.reference c.args.place) (todos c.args.path.now.items) s s'}
-    c.check_reference-checked.ensures (rw is at c.claim-found.ensures.step)
+    c.check_claim-checked.ensures (rw is at c.claim-found.ensures.step)
     (λ s x y fault step. turn-walked (start-turns (Ok ClaimResult.Claimed) refl refl s (step s.core (todos c.args.path.now.items) fault)) refl))
     (c.pin_and_write.ensures.acts c.args.worker.0) (λ s mid s' x y z one two. walked-on one two) refl
 
@@ -43,7 +43,7 @@ returns-in-Ok-Waiting-clause-acts g c =
       turn = Turn.Goes (Task.Start c.args.reference c.args.place);
       counted = false;
     }) (to_start c.args.reference c.args.place ∷ todos c.args.path.now.items) s s'}
-    c.check_reference-checked.ensures (rw is at c.claim-found.ensures.step)
+    c.check_claim-checked.ensures (rw is at c.claim-found.ensures.step)
     (λ s x y fault step. steps-to (start-turns (Ok ClaimResult.Waiting) refl tt s (step s.core (todos c.args.path.now.items) fault))
     (record { closes = refl })))
     (both-second {P = λ s. Unit {0}} {D = λ a s q s' q'. Unit {0}} (tells_all (λ s. tt)) c.fail_unclaimed.ensures.table (λ s x y u same. tt))
@@ -55,5 +55,5 @@ returns-in_default-clause-ends g c = claimed-ends (claim_result c.claim-found.re
 pub returns-in_default-clause-acts : goal.returns-in_default-clause-acts
 returns-in_default-clause-acts g c =
     let says = c.task_after_claim.ensures in
-    both-second c.check_reference-checked.ensures c.claim-found.ensures.step
+    both-second c.check_claim-checked.ensures c.claim-found.ensures.step
     (λ s x y fault step. turn-walked (start-turns c.claim-found.result says.todo says.leaves s (step s.core (todos c.args.path.now.items) fault)) refl)

@@ -1,8 +1,7 @@
 use Rattle.pagable_load.{proofs.LoadSteps.{environment-is, lender-is, me-is, told-so}, specs.AccessView.values_at}
 use Rattle.pagable_pager.proofs.LentPins.{given-held, loads-told, rest-keyed}
 use Rattle.pagable_pager_spec.specs.World.{result_map}
-use Rattle.std.proofs.Common.{refl, subst, ◌∙◌}
-use Rattle.std.specs.Prelude.{IsTrue}
+use Rattle.std.proofs.Common.{refl, ◌∙◌}
 use Rattle.pagable_pager.proofs.lent.Lent.pin_by_load.Goals as goal
 
 pub returns : goal.returns

@@ -1,7 +1,6 @@
 use Rattle.pagable_load.specs.AccessView.{values_at}
 use Rattle.pagable_pager.proofs.LentPins.{away-dropped, away-loads-pinned, away-loads-refused, away-pinned}
-use Rattle.std.proofs.{Common.subst, lemmas.Result.err_from_is_err_and}
-use Rattle.std.specs.Prelude.{IsTrue}
+use Rattle.std.proofs.{lemmas.Result.err_from_is_err_and}
 use Rattle.pagable_pager.proofs.lent.Lent.pin_paged_out.Goals as goal
 
 pub returns-in_err-handle-clause-goes : goal.returns-in_err-handle-clause-goes

@@ -2,8 +2,7 @@ use Rattle.pagable_load.specs.AccessView.{AdoptsValue, values_at}
 use Rattle.pagable_pager.proofs.LentCalls.{adopted_live, brings-so, told-if}
 use Rattle.pagable_pager.specs.View.{pager_core}
 use Rattle.pagable_tables.proofs.SameViews.{failed}
-use Rattle.std.proofs.Common.{Ok, rules, subst}
-use Rattle.std.specs.Prelude.{IsTrue}
+use Rattle.std.proofs.Common.{Ok, rules}
 use Rattle.pagable_pager.proofs.lent.LentAccess.load_adopt.Goals as goal
 
 pub returns-in_err-adopted-clause-acts : goal.returns-in_err-adopted-clause-acts

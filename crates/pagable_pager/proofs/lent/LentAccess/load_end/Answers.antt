@@ -2,8 +2,8 @@ use Rattle.pagable_load.specs.{AccessView.values_at, PinStart.ended_of}
 use Rattle.pagable_pager.proofs.LentCalls.{brings-so, told-if}
 use Rattle.pagable_pager.specs.View.{pager_core}
 use Rattle.pagable_pager_spec.specs.LoadCalls.{EndCall}
-use Rattle.std.proofs.Common.{rules, subst}
-use Rattle.std.specs.{Arc.arc_value, Prelude.IsTrue}
+use Rattle.std.proofs.Common.{rules}
+use Rattle.std.specs.{Arc.arc_value}
 
 pub returns-clause-acts : Rattle.pagable_pager.proofs.lent.LentAccess.load_end.Goals.returns-clause-acts
 returns-clause-acts g c =

@@ -1,8 +1,7 @@
 use Rattle.pagable_load.specs.AccessView.{TakesLazily, values_at}
 use Rattle.pagable_pager.proofs.LentCalls.{called_fewer, fewer_of_same, lazy_live, told-if}
 use Rattle.pagable_pager.specs.View.{pager_core}
-use Rattle.std.proofs.Common.{Ok, rules, subst}
-use Rattle.std.specs.Prelude.{IsTrue}
+use Rattle.std.proofs.Common.{Ok, rules}
 
 pub returns-clause-acts : Rattle.pagable_pager.proofs.lent.LentAccess.load_lazy.Goals.returns-clause-acts
 returns-clause-acts g c =

@@ -1,7 +1,7 @@
 use Rattle.pagable_load.{proofs.LoadSteps.{acts_from, acts_then}, specs.{AccessView.values_at, WorkerCalls.ReleasesEntry}}
 use Rattle.pagable_pager_spec.specs.Access.{EntryHas}
 use Rattle.pagable_value_spec.specs.declared.{data_key.OptionalDataKey.OptionalDataKey, numbers.HandleNumber.HandleNumber}
-use Rattle.std.proofs.Common.{subst, ◌≡◌}
+use Rattle.std.proofs.Common.{◌≡◌}
 use Rattle.pagable_pager.proofs.lent.LentWorkerAccess.release_if_keyed.Goals as goal
 
 pub returns : goal.returns
