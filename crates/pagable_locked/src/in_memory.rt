@@ -7,6 +7,7 @@ use crate::storage_handle::PagableStorageHandle;
 use pagable_codec::{Env, NodeSet};
 use pagable_core::{InMemoryBlobs, SessionOf};
 use pagable_pageout::PageOutError;
+use pagable_pager::PagerStats;
 use pagable_value_spec::Error;
 use std::alloc::Global;
 use std::sync::Wait;
@@ -69,6 +70,12 @@ impl<E: Env<Node: NodeSet<E>>> InMemoryPagableStorage<E> {
     /// Returns how many entries the page-out list has.
     pub fn pending_paging_count<R: Wait>(&self, rt: &R) -> usize {
         self.handle.pending_paging_count(rt)
+    }
+
+    /// Counts the pager's handles, nodes and entries of the page-out list: see
+    /// `PagableStorageHandle::stats`.
+    pub fn stats<R: Wait>(&self, rt: &R) -> PagerStats {
+        self.handle.stats(rt)
     }
 
     /// Says whether all tables of the pager agree: see `PagableStorageHandle::is_sound`.

@@ -5,6 +5,7 @@
 pub mod gate;
 pub mod handle_pin;
 pub mod in_memory;
+mod known;
 mod lock;
 pub mod locked;
 pub mod page_out_all;

@@ -208,6 +208,11 @@ impl<'a, R: Wait, E: Env<Node: NodeSet<E>>, S: PagableStorage<E>> WorkerAccess<E
         Lent::for_owner(&mut *pager, self.me)?.check_reference(reference)
     }
 
+    // (a value's own references stay valid as long as the value is pinned)
+    fn check_own_reference(&self, _reference: ArcRef) -> Result<(), Error> {
+        Ok(())
+    }
+
     fn pin_or_load_reference(&mut self, reference: ArcRef) -> Result<PinnedOrLoading, Error> {
         let mut pager = lock_briefly(self.pager, self.rt);
         Lent::for_owner(&mut *pager, self.me)?.pin_or_load_reference(reference)
@@ -299,7 +304,7 @@ impl<'a, R: Wait, E: Env<Node: NodeSet<E>>, S: PagableStorage<E>> WorkerAccess<E
         }
     }
 
-    fn page_out_leaf(&mut self, _alloc: Global, _place: usize) -> Result<Option<DataKey>, Error> {
-        Ok(None)
+    fn page_out_leaves(&mut self, _alloc: Global, left: usize) -> Result<usize, Error> {
+        Ok(left)
     }
 }

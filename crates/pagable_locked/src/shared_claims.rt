@@ -3,6 +3,7 @@
 ghost use Rattle.pagable_pageout.specs.{Joint.FitsAtPlace, Table.IsResultOf};
 ghost use Rattle.std.specs.Prelude.{IfOk, IfSome, ◌≡◌, ◌≤◌};
 
+use crate::known::KnownResults;
 use crate::share::{ClaimShare, WorkerShare};
 use crate::slot::ArcSerSlot;
 use crate::table::{ClaimFound, SlotTable};
@@ -14,9 +15,10 @@ use std::mem::replace;
 use std::sync::Wait;
 use std::sync::ledger::Ledger;
 
-/// A worker's claims on a table that threads share: its share of the count of claims, and the slots
-/// that it has claimed and not published yet, in the order in which it claimed them. If another
-/// worker has claimed an identity, a claim of this identity waits for that worker's outcome.
+/// A worker's claims on a table that threads share: its share of the count of claims, the slots that
+/// it has claimed and not published yet, in the order in which it claimed them, and results that it
+/// has met, for which it doesn't ask the table again. If another worker has claimed an identity, a
+/// claim of this identity waits for that worker's outcome.
 #[derive(Drop)]
 pub struct SharedClaims<'a, R: Wait, E: Env<Node: NodeSet<E>>, L: Ledger> {
     rt: &'a R,
@@ -24,6 +26,7 @@ pub struct SharedClaims<'a, R: Wait, E: Env<Node: NodeSet<E>>, L: Ledger> {
     table: &'a SlotTable<E, L>,
     share: WorkerShare<L>,
     open: Vec<ArcSerSlot<E>>,
+    known: KnownResults<E>,
 }
 
 impl<'a, R: Wait, E: Env<Node: NodeSet<E>>, L: Ledger> SharedClaims<'a, R, E, L> {
@@ -40,7 +43,27 @@ impl<'a, R: Wait, E: Env<Node: NodeSet<E>>, L: Ledger> SharedClaims<'a, R, E, L>
             table,
             share,
             open: Vec::new(alloc),
+            known: KnownResults::new(alloc),
         }
+    }
+
+    // Keeps a claim's result, if it has one, and returns what the claim finds.
+    fn keep_and_find(
+        &mut self,
+        outcome: Option<SlotResult<E>>,
+        identity: Identity,
+        place: u64,
+    ) -> Result<ClaimResult<E>, Error>
+        requires near { place ≤ 128 }
+        requires own { IfSome outcome (λ r. r.identity ≡ identity) }
+        ensures near { IfOk result (FitsAtPlace place) }
+        ensures own { IfOk result (IsResultOf identity) }
+        ensures share { self.new.share ≡ self.old.share }
+    {
+        if let Some(found) = &outcome {
+            self.known.keep(found);
+        }
+        result_of_ended_claim(outcome, identity, place)
     }
 
     /// Returns the worker's share, which counts the claims that it made.
@@ -87,19 +110,26 @@ impl<'a, R: Wait, E: Env<Node: NodeSet<E>>, L: Ledger> Claims<E> for SharedClaim
         if place > 128 {
             return Err(Error::TooDeep);
         }
+        if let Some(found) = self.known.get(identity) {
+            return result_of_ended_claim(Some(found), identity, place);
+        }
         // The room is made before the claim, so each claim is kept here and will be published or
-        // failed.
+        // failed; and the slot is made before the table's lock is taken.
         self.open.reserve(1)?;
+        let fresh = ArcSerSlot::new(self.alloc, identity)?;
         let found = self
             .share
-            .claim_for_worker(self.rt, self.alloc, self.table, worker, identity)?;
+            .claim_for_worker(self.rt, self.table, worker, fresh)?;
         match found {
             ClaimFound::Claimed(slot) => {
                 self.open.push_reserved(slot);
                 Ok(ClaimResult::Claimed)
             }
-            ClaimFound::Waits(slot) => result_of_ended_claim(slot.wait(self.rt), identity, place),
-            ClaimFound::Ended(outcome) => result_of_ended_claim(outcome, identity, place),
+            ClaimFound::Waits(slot) => {
+                let outcome = slot.wait(self.rt);
+                self.keep_and_find(outcome, identity, place)
+            }
+            ClaimFound::Ended(outcome) => self.keep_and_find(outcome, identity, place),
         }
     }
 
@@ -112,6 +142,9 @@ impl<'a, R: Wait, E: Env<Node: NodeSet<E>>, L: Ledger> Claims<E> for SharedClaim
     // Publishes the last open slot: a walk publishes first what it claimed last.
     fn publish(&mut self, found: &SlotResult<E>) {
         if let Some(slot) = self.open.pop() {
+            if slot.identity == found.identity {
+                self.known.keep(found);
+            }
             slot.set_success(self.rt, found.copy());
         }
     }

@@ -26,7 +26,7 @@ use pagable_codec::{Env, NodeSet, OfNode};
 use pagable_core::{PagableData, PagableStorage, SerializedData, SessionOf, Setting};
 use pagable_load::read_over;
 use pagable_pageout::{PageOutError, page_out_item_over, page_out_pending_over};
-use pagable_pager::Pager;
+use pagable_pager::{Pager, PagerStats};
 use pagable_value_spec::{ArcRef, DataKey, Error, HandleNumber, Kind};
 use std::alloc::Global;
 use std::sync::ledger::Ledger;
@@ -272,6 +272,12 @@ impl<E: Env<Node: NodeSet<E>>, S: PagableStorage<E>> PagableStorageHandle<E, S> 
     /// Returns how many entries the page-out list has.
     pub fn pending_paging_count<R: Wait>(&self, rt: &R) -> usize {
         self.inner.pager.lock(rt).pending()
+    }
+
+    /// Counts the pager's handles, nodes and entries of the page-out list, in constant time, as
+    /// `Pager::stats` does.
+    pub fn stats<R: Wait>(&self, rt: &R) -> PagerStats {
+        self.inner.pager.lock(rt).stats()
     }
 
     /// Says whether all tables of the pager agree, as `Pager::is_sound` does, for tests to check

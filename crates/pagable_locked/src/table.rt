@@ -1,8 +1,9 @@
 //! The table of slots that threads share. A call holds its lock only to look up, make or claim a
 //! slot; each slot has a lock of its own.
 
+ghost use Rattle.indexmap.specs.IndexMap.{index_map_len};
 ghost use Rattle.pagable_locked.specs.Slots.{IsClaimFoundOf, claims_made};
-ghost use Rattle.std.specs.{BTreeSet.btree_set_len, Prelude.{IfOk, OnErr, if◌then◌else◌, ◌+◌, ◌<◌, ◌≡◌}};
+ghost use Rattle.std.specs.Prelude.{IfOk, IfSome, OnErr, if◌then◌else◌, is_some, ◌+◌, ◌<◌, ◌≡◌};
 
 use crate::lock::lock_briefly;
 use crate::share::{ClaimShare, WorkerShare};
@@ -12,7 +13,6 @@ use pagable_codec::{Env, NodeSet};
 use pagable_pageout::{Outcome, SlotResult};
 use pagable_value_spec::{Error, Identity, WorkerNumber};
 use std::alloc::Global;
-use std::collections::BTreeSet;
 use std::sync::ledger::{Blank, Book, Ledger};
 use std::sync::{Mutex, MutexGuard, Wait};
 
@@ -28,26 +28,27 @@ pub enum ClaimFound<E: Env<Node: NodeSet<E>>> {
     Ended(Option<SlotResult<E>>),
 }
 
+// A claimed identity: its slot, and the worker whose walk claimed it, if one did.
 #[derive(Drop)]
 struct Row<E: Env<Node: NodeSet<E>>> {
     slot: ArcSerSlot<E>,
-    // the worker whose walk claimed it, if one did
     worker: Option<WorkerNumber>,
 }
 
-/// What the table's lock protects: the slots, which of them are claimed, the identity for whose
-/// outcome each worker waited last, and the book of claims, whose total is their number. Only the
-/// table's own calls reach it.
+/// What the table's lock protects: the claimed identities, the slots of those that nobody has claimed
+/// yet, the identity for whose outcome each worker waited last, and the book of claims, whose total is
+/// their number. Only the table's own calls reach it.
 #[derive(Drop)]
 pub struct Slots<E: Env<Node: NodeSet<E>>, L: Ledger> {
-    rows: IndexMap<(u32, u64), Row<E>>,
-    claimed: BTreeSet<(u32, u64)>,
+    claimed: IndexMap<(u32, u64), Row<E>>,
+    free: IndexMap<(u32, u64), ArcSerSlot<E>>,
     waits: IndexMap<u64, Identity>,
     book: Book<L>,
-    pub ghost counted: { book.total ≡ btree_set_len claimed },
+    alloc: Global,
+    pub ghost counted: { book.total ≡ index_map_len claimed },
 }
 
-fn slot_key(identity: Identity) -> (u32, u64) {
+pub(crate) fn slot_key(identity: Identity) -> (u32, u64) {
     (identity.kind.0, identity.node.0)
 }
 
@@ -61,31 +62,79 @@ impl<E: Env<Node: NodeSet<E>>, L: Ledger> Slots<E, L> {
     {
         let (book, share) = parts.open::<L>();
         let slots = Slots {
-            rows: IndexMap::new(alloc),
-            claimed: BTreeSet::new(alloc),
+            claimed: IndexMap::new(alloc),
+            free: IndexMap::new(alloc),
             waits: IndexMap::new(alloc),
             book,
+            alloc,
         };
         (slots, ClaimShare::from_ledger_share(share))
+    }
+
+    // Returns the slot that an identity has, or None.
+    fn slot_of(&self, identity: Identity) -> Option<&ArcSerSlot<E>>
+        ensures { IfSome result (λ s. s.now.identity ≡ identity) }
+    {
+        let key = slot_key(identity);
+        let slot = match self.claimed.get(&key) {
+            Some(row) => &row.slot,
+            None => self.free.get(&key)?,
+        };
+        if slot.identity == identity {
+            return Some(slot);
+        }
+        None
     }
 
     // Returns the slot of an identity, and makes one if there is none.
     fn slot(&mut self, alloc: Global, identity: Identity) -> Result<ArcSerSlot<E>, Error>
         ensures { IfOk result (λ s. s.identity ≡ identity) }
     {
-        if let Some(row) = self.rows.get(&slot_key(identity)) {
-            if row.slot.identity == identity {
-                return row.slot.clone();
-            }
+        if let Some(slot) = self.slot_of(identity) {
+            return slot.clone();
         }
         let slot = ArcSerSlot::new(alloc, identity)?;
-        let kept = slot.clone()?;
-        let row = Row {
-            slot: kept,
-            worker: None,
-        };
-        self.rows.insert(slot_key(identity), row)?;
+        self.free.insert(slot_key(identity), slot.clone()?)?;
         Ok(slot)
+    }
+
+    // Claims the identity of this slot if it is free, counts the claim, and returns the identity's slot:
+    // that which it has, or this one. Returns None if it isn't free.
+    fn claim(
+        &mut self,
+        worker: Option<WorkerNumber>,
+        fresh: ArcSerSlot<E>,
+        share: &mut ClaimShare<L>,
+    ) -> Result<Option<ArcSerSlot<E>>, Error>
+        ensures own { IfOk result (λ claimed. IfSome claimed (λ s. s.identity ≡ fresh.identity)) }
+        ensures amount { IfOk result (λ claimed. share.new.share.amount
+            ≡ share.old.share.amount + (if is_some claimed then 1 else 0)) }
+        ensures parts { share.new.share.parts ≡ share.old.share.parts }
+        ensures err { OnErr result (share.new.share.amount ≡ share.old.share.amount) }
+    {
+        let key = slot_key(fresh.identity);
+        if self.claimed.contains_key(&key) {
+            return Ok(None);
+        }
+        let slot = match self.free.get(&key) {
+            Some(made) if made.identity == fresh.identity => made.clone()?,
+            _ => fresh,
+        };
+        let row = Row {
+            slot: slot.clone()?,
+            worker,
+        };
+        let Slots {
+            claimed,
+            free,
+            book,
+            ..
+        } = self;
+        let ClaimShare { share } = share;
+        claimed.insert(key, row)?;
+        book.add(share, 1);
+        free.swap_remove(&key);
+        Ok(Some(slot))
     }
 
     // Claims an identity if it is free, counts the claim, and says whether it was free.
@@ -94,13 +143,8 @@ impl<E: Env<Node: NodeSet<E>>, L: Ledger> Slots<E, L> {
         ensures parts { share.new.share.parts ≡ share.old.share.parts }
         ensures err { OnErr result (share.new.share.amount ≡ share.old.share.amount) }
     {
-        let Slots { claimed, book, .. } = self;
-        let ClaimShare { share } = share;
-        let is_free = claimed.insert(slot_key(identity))?;
-        if is_free {
-            book.add(share, 1);
-        }
-        Ok(is_free)
+        let fresh = ArcSerSlot::new(self.alloc, identity)?;
+        Ok(self.claim(None, fresh, share)?.is_some())
     }
 
     // Returns the number of claims, all of which the whole share counts.
@@ -117,7 +161,7 @@ impl<E: Env<Node: NodeSet<E>>, L: Ledger> Slots<E, L> {
 
     // Returns the worker whose walk has claimed an identity that has no outcome yet.
     fn open_claimer<R: Wait>(&self, rt: &R, identity: Identity) -> Option<WorkerNumber> {
-        let row = self.rows.get(&slot_key(identity))?;
+        let row = self.claimed.get(&slot_key(identity))?;
         match row.slot.outcome(rt) {
             Outcome::Open => row.worker,
             _ => None,
@@ -145,27 +189,24 @@ impl<E: Env<Node: NodeSet<E>>, L: Ledger> Slots<E, L> {
     }
 
     // Claims an identity for a worker's walk, or returns its outcome. If it is claimed and has no
-    // outcome yet, notes that the worker waits for it. Fails with TooDeep if workers would wait in
-    // a ring, and with OutOfMemory.
+    // outcome yet, notes that the worker waits for it. `fresh` becomes its slot if it has none. Fails
+    // with TooDeep if workers would wait in a ring, and with OutOfMemory.
     fn claim_for_worker<R: Wait>(
         &mut self,
         rt: &R,
-        alloc: Global,
         worker: WorkerNumber,
-        identity: Identity,
+        fresh: ArcSerSlot<E>,
         share: &mut ClaimShare<L>,
     ) -> Result<ClaimFound<E>, Error>
-        ensures own { IfOk result (IsClaimFoundOf identity) }
+        ensures own { IfOk result (IsClaimFoundOf fresh.identity) }
         ensures amount { share.new.share.amount ≡ share.old.share.amount + claims_made result }
         ensures parts { share.new.share.parts ≡ share.old.share.parts }
     {
-        let slot = self.slot(alloc, identity)?;
-        if self.try_claim(identity, share)? {
-            if let Some(row) = self.rows.get_mut(&slot_key(identity)) {
-                row.worker = Some(worker);
-            }
+        let identity = fresh.identity;
+        if let Some(slot) = self.claim(Some(worker), fresh, share)? {
             return Ok(ClaimFound::Claimed(slot));
         }
+        let slot = self.slot(self.alloc, identity)?;
         match slot.outcome(rt) {
             Outcome::Published(found) => Ok(ClaimFound::Ended(Some(found))),
             Outcome::Failed => Ok(ClaimFound::Ended(None)),
@@ -259,8 +300,9 @@ impl<E: Env<Node: NodeSet<E>>, L: Ledger> SlotTable<E, L> {
 }
 
 impl<L: Ledger> WorkerShare<L> {
-    /// Claims an identity for a worker's walk, or returns its outcome; if it is claimed and has no
-    /// outcome yet, notes that the worker waits for it. Counts a claim that it makes in this share.
+    /// Claims the identity of a slot for a worker's walk, or returns its outcome; if it is claimed and
+    /// has no outcome yet, notes that the worker waits for it. The slot becomes the identity's if this
+    /// has none. Counts a claim that it makes in this share.
     ///
     /// # Errors
     ///
@@ -269,15 +311,14 @@ impl<L: Ledger> WorkerShare<L> {
     pub(crate) fn claim_for_worker<R: Wait, E: Env<Node: NodeSet<E>>>(
         &mut self,
         rt: &R,
-        alloc: Global,
         table: &SlotTable<E, L>,
         worker: WorkerNumber,
-        identity: Identity,
+        fresh: ArcSerSlot<E>,
     ) -> Result<ClaimFound<E>, Error>
-        ensures own { IfOk result (IsClaimFoundOf identity) }
+        ensures own { IfOk result (IsClaimFoundOf fresh.identity) }
         ensures amount { self.new.share.share.amount ≡ self.old.share.share.amount + claims_made result }
     {
         let WorkerShare { share } = self;
-        lock_briefly(&table.slots, rt).claim_for_worker(rt, alloc, worker, identity, share)
+        lock_briefly(&table.slots, rt).claim_for_worker(rt, worker, fresh, share)
     }
 }
