@@ -1,7 +1,7 @@
 #!/usr/bin/env python3
-"""Tries what users may do to files of blobs: kills, full disks, second writers, readers and copies beside a writer, gc
-beside others, damage, modes, links and odd names, databases, texts that one run saves and the next one opens, and calls
-that are none.
+"""Tries what users may do to files of blobs: kills, cuts of power, full disks, refused memory and calls of the disk,
+second writers, readers and copies beside a writer, gc beside others, damage, modes, links and odd names, databases,
+texts that one run saves and the next one opens, and calls that are none.
 
     tools/file_blobs/check.py [PROGRAM [KILLS [SECONDS [SEED]]]]
 
@@ -25,6 +25,9 @@ import access  # noqa: E402
 import collecting  # noqa: E402
 import damages  # noqa: E402
 import databases  # noqa: E402
+import plain_lines  # noqa: E402
+import power  # noqa: E402
+import refusing  # noqa: E402
 from asking import (  # noqa: E402
     DRAWN, alone, chain, flushes, key_of, kill, limit_files, lost, removed, run, seen, wait_until,
 )
@@ -105,7 +108,8 @@ class Beside:
             if not test.stdout.endswith(" 0 flaws\n"):
                 self.odd.append((test.stdout, test.stderr))
             else:
-                self.told("looks", answered, words[1] if words else None, int(test.stdout.split()[0]))
+                count = int(test.stdout.splitlines()[-1].split()[0])
+                self.told("looks", answered, words[1] if words else None, count)
 
     def copy(self):
         """Copies the file, and opens the copy to look at it and to write it."""
@@ -292,16 +296,20 @@ def statuses(program, folder):
 
 def main():
     rounds, seconds, seed = [*map(int, sys.argv[2:]), *[40, 10, 5][len(sys.argv[2:]) :]]
-    need("sqlite3")
+    for tool in ("sqlite3", "strace", "cc"):
+        need(tool)
+    sources = {"memory": HERE.parent / "failures" / "refuse.c", "disk": HERE / "disk.c"}
     DRAWN.seed(seed)
     with tempfile.TemporaryDirectory() as folder:
         folder = pathlib.Path(folder)
         program = pathlib.Path(sys.argv[1]).resolve() if len(sys.argv) > 1 else built_crate(folder / "build", "blobctl")
         tests = [
             (kills, rounds), (collecting.kills, rounds), (collecting.race, seconds), (collecting.keeps,),
-            (beside, seconds), (damages.opens,), (damages.flaws,), (damages.each_byte,), (damages.each_length,),
+            (beside, seconds), (damages.opens,), (damages.flaws,), (damages.flaws_under,), (damages.each_byte,),
+            (damages.each_length,),
             (access.rights,), (access.links,), (access.names,), (databases.imports,), (databases.exports,),
-            (copies,), (size,), (full_disk,), (texts,), (statuses,),
+            (copies,), (size,), (full_disk,), (texts,), (statuses,), (plain_lines.answers,), (power.power, rounds // 2),
+            (refusing.refusals, sources),
         ]
         faults = [test(program, folder, *words) for test, *words in tests]
     if any(faults):

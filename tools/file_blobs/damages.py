@@ -34,6 +34,21 @@ FLAWED = [
     ([("00" * 16, *FIRST[1:])], [], [f"what stands under {'00' * 16} is no blob"]),
     ([(OTHER, 1, SECOND[2])], [], [f"{OTHER} has another key", f"{OTHER} refers to {FIRST[0]}, which is missing"]),
 ]
+# What `fsck NAME` has to tell of files: the flaws, and how many blobs the name reaches.
+TOP = blob(b"top", [SECOND[0], FIRST[0], SECOND[0]])
+STRAY = (OTHER, 1, bytes(16) + b"x")
+UNDER = [
+    ([FIRST, SECOND, THIRD, (OTHER, *FIRST[1:])], [(b"main", THIRD[0]), (b"bad", OTHER)], "main", [], 3),
+    ([FIRST, SECOND, (OTHER, *FIRST[1:])], [(b"bad", OTHER)], "bad", [f"{OTHER} has another key"], 1),
+    ([SECOND, THIRD], [(b"main", THIRD[0])], "main", [f"{SECOND[0]} refers to {FIRST[0]}, which is missing"], 2),
+    ([SECOND, TOP], [(b"a name", TOP[0])], "a name",
+     [f"{it[0]} refers to {FIRST[0]}, which is missing" for it in (SECOND, TOP)], 2),
+    ([FIRST, STRAY], [(b"main", ABSENT), (b"other", FIRST[0])], "main",
+     [f"root main is {ABSENT}, which is missing"], 0),
+    ([FIRST, STRAY], [(b"main", ABSENT), (b"other", FIRST[0])], "other", [], 1),
+    ([STRAY], [(b"main", OTHER)], "main", [f"what stands under {OTHER} is no blob"], 1),
+    ([STRAY], [(b"main", OTHER)], "none", ["error: no root is called none"], None),
+]
 # For each kind of flaw, a pattern of the lines that tell it.
 FLAWS = {
     "StrayBlob": r"what stands under [0-9a-f]{32} is no blob",
@@ -50,11 +65,14 @@ CAUSES = {
     "MayNotRead": "the file may not be read",
     "Missing": "there is no such file",
     "FolderMissing": "there is no such folder",
+    "LinkLoop": "the path's links don't come to an end",
     "NotBlobs": "the file is none of blobs",
     "Damaged": "the file is damaged",
     "Io": "the disk failed",
 }
 NOBODY = 65534
+# What `fsck` says of bytes that don't count.
+TAIL = re.compile(r"(\d+) bytes behind the last flush say nothing")
 
 
 def variants(file, name):
@@ -63,9 +81,9 @@ def variants(file, name):
     return set(re.findall(r"(?m)^    (\w+)", re.search(rf"pub enum {name} {{(.*?)\n}}", text, re.S)[1]))
 
 
-def flaws_of(program, file):
-    """The flaws that `fsck` tells of a file."""
-    return run(program, file, "fsck").stdout.splitlines()[:-1]
+def flaws_in(said):
+    """The lines of an answer of `fsck` that tell flaws."""
+    return [line for line in said.splitlines()[:-1] if not TAIL.fullmatch(line)]
 
 
 def flaws(program, folder):
@@ -74,7 +92,7 @@ def flaws(program, folder):
     for blobs, names, wanted in FLAWED:
         file.write_bytes(file_of(batch(blobs, names)))
         test = run(program, file, "fsck")
-        found = test.stdout.splitlines()[:-1]
+        found = flaws_in(test.stdout)
         if sorted(found) != sorted(wanted) or test.returncode != int(bool(wanted)):
             return f"flaws: {found} in place of {wanted}; {test.stderr}"
         met += found
@@ -85,13 +103,27 @@ def flaws(program, folder):
     return None
 
 
+def flaws_under(program, folder):
+    """Tests what roots reach: `fsck NAME` has to name each flaw of that, and no other."""
+    file = folder / "under.blobs"
+    for blobs, names, name, wanted, count in UNDER:
+        file.write_bytes(file_of(batch(blobs, names)))
+        test = run(program, file, "fsck", *name.split(" "))
+        lines = [*wanted] if count is None else [*wanted, f"{count} blobs, {len(wanted)} flaws"]
+        if sorted(test.stdout.splitlines()) != sorted(lines) or test.returncode != int(bool(wanted)):
+            return f"fsck {name}: {test.stdout}{test.stderr} in place of {lines}"
+    print(f"flaws: fsck NAME names those of what the name reaches, in {len(UNDER)} files")
+    return None
+
+
 def looked(program, file):
-    """What a file shows: its blobs, names and flaws, or why it isn't opened."""
+    """What a file shows: its blobs, names and flaws, and how many bytes don't count; or why it isn't opened."""
     shown = [run(program, file, word) for word in ("list", "roots", "fsck")]
     if any("blobctl:" in it.stderr for it in shown):
         return {it.stderr.strip().rpartition(": ")[2] for it in shown}
-    listed, roots, test = [it.stdout.splitlines() for it in shown]
-    return sorted(listed), sorted(roots), sorted(test[:-1])
+    listed, roots, _ = [it.stdout.splitlines() for it in shown]
+    tail = [int(found[1]) for found in map(TAIL.fullmatch, shown[2].stdout.splitlines()) if found]
+    return sorted(listed), sorted(roots), sorted(flaws_in(shown[2].stdout)), sum(tail)
 
 
 def plainly(content):
@@ -106,7 +138,7 @@ def plainly(content):
         missing = [it for it in plain.children(key) if it not in plain.blobs]
         found += [f"{key} refers to {it}, which is missing" for it in missing]
     found += [f"root {name} is {key}, which is missing" for name, key in plain.names.items() if key not in plain.blobs]
-    return plain.listed(), plain.roots(), sorted(found)
+    return plain.listed(), plain.roots(), sorted(found), max(0, len(content) - max(plain.end, 16) - 1)
 
 
 def small(program, file):
@@ -191,12 +223,14 @@ def opens(program, folder):
     inner.mkdir()
     folder.chmod(0o755)
     plain = {"user": NOBODY, "group": NOBODY, "extra_groups": []} if os.geteuid() == 0 else {}
-    whole, other, damaged, shut, fresh = (inner / name for name in ("whole", "other", "damaged", "shut", "fresh"))
+    names = ("whole", "other", "damaged", "shut", "fresh", "ring")
+    whole, other, damaged, shut, fresh, ring = (inner / name for name in names)
     content = file_of(batch([FIRST]))
     bad = content[:33] + b"?" + content[34:]
     for file, text in ((whole, content), (other, b"no blobs"), (damaged, bad), (shut, content)):
         file.write_bytes(text)
     shut.chmod(0)
+    ring.symlink_to(ring.name)
     said = {
         "OutOfMemory": without_memory(program, inner / "many"),
         "InUse": in_use(program, whole),
@@ -205,6 +239,7 @@ def opens(program, folder):
         "MayNotRead": run(program, shut, "stat", **plain),
         "Missing": run(program, fresh, "stat"),
         "FolderMissing": run(program, fresh / "a", "flush"),
+        "LinkLoop": run(program, ring, "stat"),
         "NotBlobs": run(program, other, "stat"),
         "Damaged": run(program, damaged, "stat"),
         "Io": run(program, fresh, "flush", preexec_fn=lambda: limit_files(0)),

@@ -8,7 +8,7 @@ use Rattle.sqlite_disk.specs.Disk.{MoreFaults}
 use Rattle.sqlite_wal.specs.Format.{part}
 use Rattle.sqlite_wal.specs.Reads.{IsClean}
 use Rattle.blob_file.specs.Appending.{IsOpen}
-use Rattle.blob_file.specs.Format.{recovered}
+use Rattle.blob_file.specs.Format.{joined, recovered}
 use Rattle.blob_file.specs.Rows.{Body, AreWhole, blobs_in, named_in, names_in, nowhere, places_in, placed, size_of_place, stored_in, told}
 use Rattle.blob_file.specs.declared.file.BlobFile.{BlobFile}
 use Rattle.blob_file.specs.declared.file.FoundBlob.{FoundBlob}
@@ -99,6 +99,16 @@ FetchFails clean whole before after Damaged = clean → ⊥
 FetchFails clean whole before after Failed = MoreFaults before after
 FetchFails clean whole before after Shut = whole ≡ false
 FetchFails clean whole before after _ = ⊥
+
+-- how many bytes the file has behind the gate where its batches end
+abbrev pub tail_of : List ℕ → ℕ
+tail_of file = length file - (17 + length (joined (recovered file)))
+
+-- why the bytes behind the batches aren't counted
+abbrev pub CountFails : Bool → ℕ → ℕ → FileError → Type 0
+CountFails whole before after Failed = MoreFaults before after
+CountFails whole before after Shut = whole ≡ false
+CountFails whole before after _ = ⊥
 
 -- why a blob isn't held
 abbrev pub AddFails : {D : Type 0} → Log D → FileError → Type 0

@@ -1,6 +1,7 @@
 //! What a file of blobs has, without the bodies.
 
-ghost use Rattle.blob_file.specs.File.{IsSettled, Lists, ListsBlobs, held_blobs, is_held, listed_entry, named, stored};
+ghost use Rattle.blob_file.specs.File.{CountFails, IsSettled, Lists, ListsBlobs, Same, content, flushed, held_blobs, is_held};
+ghost use Rattle.blob_file.specs.File.{listed_entry, named, stored, tail_of};
 ghost use Rattle.blob_file.specs.declared.file_error.FileError.TheVariants.{OutOfMemory};
 ghost use Rattle.sqlite_wal.specs.Reads.{IsClean};
 ghost use Rattle.std.specs.HashMap.{IsUnique, values};
@@ -90,6 +91,32 @@ impl<D: Disk> BlobFile<D> {
             flushed_bytes: self.log.gate,
             held_bytes: self.bodies.len(),
         }
+    }
+
+    /// Counts the bytes of the file behind the gate where its batches end. They say nothing: a crash in
+    /// a flush left them, or a flush that failed, or a copy was cut there.
+    ///
+    /// # Errors
+    ///
+    /// `Failed`, or `Shut` after a flush that failed. Nothing changes.
+    pub fn count_tail(&mut self) -> Result<usize, FileError>
+        requires settled { IsSettled D.Disk self.old }
+        ensures counted { IfOk result (λ count. IsClean D.Disk self.new.log.disk
+            → count ≡ tail_of (D.seen self.old.log.disk)) }
+        ensures refused { IfErr result (CountFails self.old.log.is_whole
+            (D.faults self.old.log.disk) (D.faults self.new.log.disk)) }
+        ensures settled { IsSettled D.Disk self.new }
+        ensures same { Same (content D.Disk self.old) (content D.Disk self.new) }
+        ensures same_flushed { Same (flushed D.Disk self.old) (flushed D.Disk self.new) }
+        ensures same_whole { self.new.log.is_whole ≡ self.old.log.is_whole }
+        ensures same_may { self.new.log.may_write ≡ self.old.log.may_write }
+        ensures clean { IsClean D.Disk self.new.log.disk → IsClean D.Disk self.old.log.disk }
+    {
+        if !self.log.is_whole {
+            return Err(FileError::Shut);
+        }
+        let len = self.log.disk.len()?;
+        Ok(len.saturating_sub(self.log.gate).saturating_sub(1))
     }
 
     /// Counts the blobs that are held in memory until a flush, by a walk over all places.

@@ -23,6 +23,7 @@ fn refusal(error: io::Error, denied: OpenError, missing: OpenError) -> OpenError
         io::ErrorKind::NotFound => missing,
         io::ErrorKind::NotADirectory => OpenError::FolderMissing,
         io::ErrorKind::IsADirectory => OpenError::NotAFile,
+        io::ErrorKind::FilesystemLoop => OpenError::LinkLoop,
         _ => OpenError::Failed(error),
     }
 }
@@ -32,7 +33,8 @@ fn refusal(error: io::Error, denied: OpenError, missing: OpenError) -> OpenError
 ///
 /// # Errors
 ///
-/// `NotAFile` for a folder, a pipe, a device or a socket; `MayNotRead`, `FolderMissing` and `Failed`.
+/// `NotAFile` for a folder, a pipe, a device or a socket; `MayNotRead`, `FolderMissing`, `LinkLoop` and
+/// `Failed`.
 pub fn facts_at(rt: &HostRuntime, path: &str) -> Result<Option<FileFacts>, OpenError> {
     match fs::metadata(rt, path) {
         Ok(found) => Ok(Some(FileFacts::of_file(&found)?)),
@@ -65,7 +67,7 @@ fn open_file(
 ///
 /// # Errors
 ///
-/// `Missing`, `NotAFile`, `MayNotRead`, `FolderMissing` and `Failed`.
+/// `Missing`, `NotAFile`, `MayNotRead`, `FolderMissing`, `LinkLoop` and `Failed`.
 pub fn open_to_read(rt: &HostRuntime, path: &str) -> Result<(File, FileFacts), OpenError> {
     // (an open of a pipe would wait for its other end)
     if facts_at(rt, path)?.is_none() {
@@ -108,7 +110,7 @@ fn lock_once(rt: &HostRuntime, path: &str) -> Result<Option<(File, FileFacts)>, 
 ///
 /// # Errors
 ///
-/// `InUse`, `NotAFile`, `MayNotWrite`, `MayNotRead`, `FolderMissing`, `Replaced` and `Failed`.
+/// `InUse`, `NotAFile`, `MayNotWrite`, `MayNotRead`, `FolderMissing`, `LinkLoop`, `Replaced` and `Failed`.
 pub fn open_locked(rt: &HostRuntime, path: &str) -> Result<(File, FileFacts), OpenError> {
     for _ in 0..TRIES {
         if let Some(found) = lock_once(rt, path)? {

@@ -19,6 +19,8 @@ pub enum OpenError {
     Missing,
     /// The path's folder is missing, or is none.
     FolderMissing,
+    /// The path's links lead round in a ring, or are more than the system follows.
+    LinkLoop,
     /// The path named another file each time it was opened.
     Replaced,
     /// The system failed, with this error.
@@ -42,6 +44,7 @@ impl fmt::Display for OpenError {
             OpenError::MayNotRead => "the file may not be read",
             OpenError::Missing => "there is no such file",
             OpenError::FolderMissing => "there is no such folder",
+            OpenError::LinkLoop => "the path's links don't come to an end",
             OpenError::Replaced => "the path names another file each time",
             OpenError::Failed(error) => return write!(f, "{error}"),
         })

@@ -53,6 +53,7 @@ fn disk_of<S: Start>(file: File, facts: FileFacts) -> OpenFile<S>
 /// - `NotAFile`: the path names a folder, a pipe, a device or a socket.
 /// - `MayNotWrite` or `MayNotRead`: this process has no leave to open or to make the file.
 /// - `FolderMissing`: the path's folder is missing, or is none.
+/// - `LinkLoop`: the path's links lead round in a ring.
 /// - `Replaced`: the path named another file each time that one was locked.
 /// - `Failed`: with the error of the system. The file may be there then, empty, if it was missing.
 pub fn open<S: Start>(rt: &HostRuntime, path: &str, _start: S) -> Result<OpenFile<S>, OpenError>
@@ -74,6 +75,7 @@ pub fn open<S: Start>(rt: &HostRuntime, path: &str, _start: S) -> Result<OpenFil
 /// - `NotAFile`: it names a folder, a pipe, a device or a socket.
 /// - `MayNotRead`: this process has no leave to read the file.
 /// - `FolderMissing`: the path's folder is none.
+/// - `LinkLoop`: the path's links lead round in a ring.
 /// - `Failed`: with the error of the system.
 pub fn read_only<S: Start>(
     rt: &HostRuntime,

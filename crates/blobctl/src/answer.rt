@@ -8,11 +8,15 @@ use crate::progress::ProgressPrinter;
 use crate::refusal::Refusal;
 use crate::show::write_flaw;
 use pagable_core::PagableData;
+use pagable_file::Flaw;
 use pagable_flavors::{DataKey, Error};
 use std::alloc::Global;
 
 /// The lines of an answer, and false if they name a flaw; or why the command fails.
 pub type Answer = Result<(String, bool), Refusal>;
+
+/// How many bytes the line of a key has.
+const KEY_LINE: usize = 33;
 
 /// Reads keys, with white space between them.
 fn keys_of(alloc: Global, words: &str) -> Result<Vec<DataKey>, Refusal> {
@@ -38,8 +42,11 @@ fn blob_of(alloc: Global, words: &str) -> Result<PagableData, Refusal> {
 /// Stores the blob that words spell, and returns its key's line.
 fn put<B: Blobs>(alloc: Global, blobs: &mut B, words: &str) -> Result<String, Refusal> {
     let blob = blob_of(alloc, words)?;
+    // (with room for the answer, so that no blob is stored of which it is said that memory ran out)
+    let mut text = String::with_capacity(alloc, KEY_LINE)?;
     let key = blobs.store(alloc, blob)?;
-    Ok(format!(in alloc; "{key}\n")?)
+    writeln!(text, "{key}")?;
+    Ok(text)
 }
 
 /// Makes a name stand for a key, or for none, and says so.
@@ -49,8 +56,9 @@ fn set_root<B: Blobs>(
     name: &str,
     key: Option<DataKey>,
 ) -> Result<String, Error> {
+    let text = String::from_str(alloc, "set\n")?;
     blobs.set_root(alloc, name, key)?;
-    Ok(String::from_str(alloc, "set\n")?)
+    Ok(text)
 }
 
 /// Reads a name and a key from `words`, and makes the name stand for the key.
@@ -68,19 +76,50 @@ fn parse_and_set_root<B: Blobs>(
 
 /// Commits what was stored and set, and says so.
 fn flush<B: Blobs>(alloc: Global, blobs: &mut B) -> Result<String, Error> {
+    let text = String::from_str(alloc, "flushed\n")?;
     blobs.flush()?;
-    Ok(String::from_str(alloc, "flushed\n")?)
+    Ok(text)
 }
 
-/// Names each flaw of the file, and says how many blobs and flaws there are.
+/// Names each flaw of the file, and says how many bytes behind its last flush say nothing, and how many
+/// blobs and flaws there are.
 fn fsck<B: Blobs>(rt: &HostRuntime, blobs: &mut B) -> Result<(String, bool), Error> {
     let mut progress = ProgressPrinter::new(rt);
     let flaws = blobs.fsck(rt.alloc(), &mut progress)?;
-    let mut text = String::new(rt.alloc());
-    for flaw in &flaws {
+    let tail = blobs.count_tail()?;
+    flaws_told(rt.alloc(), flaws.as_slice(), tail, progress.count())
+}
+
+/// Names each flaw of what the root of a name reaches, and says how many blobs and flaws there are.
+fn fsck_root<B: Blobs>(
+    rt: &HostRuntime,
+    blobs: &mut B,
+    name: &str,
+) -> Result<(String, bool), Refusal> {
+    if blobs.root(name)?.is_none() {
+        return Err(Refusal::NoSuchRoot(String::from_str(rt.alloc(), name)?));
+    }
+    let mut progress = ProgressPrinter::new(rt);
+    let flaws = blobs.fsck_root(rt.alloc(), name, &mut progress)?;
+    Ok(flaws_told(rt.alloc(), flaws.as_slice(), 0, progress.count())?)
+}
+
+/// Returns the lines of these flaws, of a tail of so many bytes, and of the counts; and whether there
+/// is no flaw.
+fn flaws_told(
+    alloc: Global,
+    flaws: &[Flaw],
+    tail: u64,
+    blobs: u64,
+) -> Result<(String, bool), Error> {
+    let mut text = String::new(alloc);
+    for flaw in flaws {
         write_flaw(&mut text, flaw)?;
     }
-    writeln!(text, "{} blobs, {} flaws", progress.count(), flaws.len())?;
+    if tail > 0 {
+        writeln!(text, "{tail} bytes behind the last flush say nothing")?;
+    }
+    writeln!(text, "{blobs} blobs, {} flaws", flaws.len())?;
     Ok((text, flaws.is_empty()))
 }
 
@@ -110,6 +149,7 @@ fn copy<B: BlobsInFile>(rt: &HostRuntime, blobs: &mut B, path: &str) -> Result<S
 ///
 /// - `BadLine` if a word after the verb is no key or no bytes.
 /// - `GcAmongLines` for `gc`.
+/// - `NoSuchRoot` if a name behind `fsck` stands for no key.
 /// - `Blobs` if a call on the file fails, or one on the file that `copy` writes.
 /// - `File` if the file that `copy` writes can't be opened.
 /// - as `export_database`.
@@ -121,7 +161,8 @@ pub fn answer<B: BlobsInFile>(rt: &HostRuntime, blobs: &mut B, verb: Verb, words
         Verb::Roots => roots(alloc, blobs)?,
         Verb::Tree => tree(alloc, blobs, key_of(words)?)?,
         Verb::Dot => graph(alloc, blobs, key_of(words)?)?,
-        Verb::Fsck => return Ok(fsck(rt, blobs)?),
+        Verb::Fsck if words.is_empty() => return Ok(fsck(rt, blobs)?),
+        Verb::Fsck => return fsck_root(rt, blobs, words),
         Verb::Copy => copy(rt, blobs, words)?,
         Verb::ExportDb => export_database(rt, blobs, words)?,
         Verb::Gc => return Err(Refusal::GcAmongLines),

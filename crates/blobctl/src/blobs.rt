@@ -36,6 +36,17 @@ pub trait Blobs: Drop {
     /// Tests the whole file, and returns its flaws.
     fn fsck<W: Watch>(&mut self, alloc: Global, watch: &mut W) -> Result<Vec<Flaw>, Error>;
 
+    /// Tests what the root of a name reaches, and returns its flaws.
+    fn fsck_root<W: Watch>(
+        &mut self,
+        alloc: Global,
+        name: &str,
+        watch: &mut W,
+    ) -> Result<Vec<Flaw>, Error>;
+
+    /// Counts the bytes behind the last flush, which say nothing.
+    fn count_tail(&mut self) -> Result<u64, Error>;
+
     /// Copies into another file what the roots of names reach, and returns how many blobs that is.
     fn copy<W: Watch>(
         &mut self,
@@ -96,6 +107,19 @@ impl<E: Env, D: Disk + Drop> Blobs for FileBlobs<E, D> {
 
     fn fsck<W: Watch>(&mut self, alloc: Global, watch: &mut W) -> Result<Vec<Flaw>, Error> {
         FileBlobs::fsck(self, alloc, watch)
+    }
+
+    fn fsck_root<W: Watch>(
+        &mut self,
+        alloc: Global,
+        name: &str,
+        watch: &mut W,
+    ) -> Result<Vec<Flaw>, Error> {
+        FileBlobs::fsck_root(self, alloc, name, watch)
+    }
+
+    fn count_tail(&mut self) -> Result<u64, Error> {
+        FileBlobs::count_tail(self)
     }
 
     fn copy<W: Watch>(

@@ -16,7 +16,7 @@ pub enum Verb {
     Tree,
     /// `dot KEY`: what a key reaches, as a graph in the language of Graphviz.
     Dot,
-    /// `fsck`: what is wrong with the file.
+    /// `fsck`: what is wrong with the file. `fsck NAME`: with what the root of a name reaches.
     Fsck,
     /// `copy FILE`: copies into FILE what the roots reach.
     Copy,
@@ -78,6 +78,7 @@ fn verb_before_words(word: &str) -> Option<Verb> {
     match word {
         "tree" => Some(Verb::Tree),
         "dot" => Some(Verb::Dot),
+        "fsck" => Some(Verb::Fsck),
         "copy" => Some(Verb::Copy),
         "export-db" => Some(Verb::ExportDb),
         "put" => Some(Verb::Put),

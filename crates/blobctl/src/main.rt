@@ -31,7 +31,7 @@ use std::sync::Wait;
 use std::{env, io};
 
 const USAGE: &str =
-    "usage: blobctl FILE [stat | list | roots | tree KEY | dot KEY | fsck | copy FILE | export-db DB | gc \
+    "usage: blobctl FILE [stat | list | roots | tree KEY | dot KEY | fsck [NAME] | copy FILE | export-db DB | gc \
     | put HEX [KEY..] | root NAME KEY | drop NAME | flush]\n       blobctl texts FILE\n       \
     blobctl import-old OLD FILE";
 

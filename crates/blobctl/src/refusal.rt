@@ -13,6 +13,8 @@ pub enum Refusal {
     BadLine,
     /// `gc` came as a line of the input.
     GcAmongLines,
+    /// No root has this name.
+    NoSuchRoot(String),
     /// A call on the blobs failed.
     Blobs(Error),
     /// A file couldn't be opened.
@@ -73,6 +75,9 @@ impl fmt::Display for Refusal {
             Refusal::BadLine => f.write_str("bad line"),
             Refusal::GcAmongLines => {
                 f.write_str("error: gc is asked for behind the file's name alone")
+            }
+            Refusal::NoSuchRoot(name) => {
+                write!(f, "error: no root is called {}", name.escape_debug())
             }
             Refusal::Blobs(error) => write_error(f, error),
             Refusal::File(error) => write!(f, "error: {error}"),

@@ -6,6 +6,7 @@ use crate::collect::collect_garbage;
 use crate::command::{Verb, parse};
 use crate::import::import_database;
 use crate::refusal::Refusal;
+use blob_host::facts_at;
 use pagable_file::OpenError;
 use std::io::{BufRead, BufReader};
 use std::{fs, io};
@@ -98,8 +99,10 @@ pub fn serve_import<B: BlobsInFile>(rt: &HostRuntime, old: &str, path: &str) -> 
 /// Drops what no root of the file of a path reaches, or of the file to which a link there leads.
 /// Returns false if that fails.
 fn run_gc<B: BlobsInFile>(rt: &HostRuntime, path: &str) -> io::Result<bool> {
-    if !fs::exists(rt, path)? {
-        return tell(rt, path, OpenError::Missing);
+    match facts_at(rt, path).map_err(OpenError::from) {
+        Ok(Some(_)) => {}
+        Ok(None) => return tell(rt, path, OpenError::Missing),
+        Err(error) => return tell(rt, path, error),
     }
     let found = fs::canonicalize(rt, path)?;
     match B::open(rt, found.as_str()) {

@@ -18,3 +18,8 @@ all_with P Q x goes here (y ∷ ys) all = (goes y all.0, all_with P Q x goes her
 pub each_more : {X : Type 0} (P Q : X → Type 0) (xs : List X) (i : ℕ) (x : X) → i < length xs → x ≡ get_or xs i x → ((y : X) → P y → Q y)
     → Each P (take i xs) → Q x → Each Q (take (i + 1) xs)
 each_more P Q xs i x h is goes all here = rw (take_more xs i x h, ← is) (all_with P Q x goes here (take i xs) all)
+
+-- what holds of the items of two lists holds of those of both
+pub each_append : {X : Type 0} (P : X → Type 0) (xs ys : List X) → Each P xs → Each P ys → Each P (xs ++ ys)
+each_append P [] ys front behind = behind
+each_append P (x ∷ xs) ys front behind = (front.0, each_append P xs ys front.1 behind)

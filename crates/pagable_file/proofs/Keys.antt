@@ -2,17 +2,8 @@
 use Rattle.blob_file.proofs.KeyBytes.{read_back}
 use Rattle.pagable_file.proofs.Each.{all_with}
 use Rattle.pagable_file.specs.Bodies.{CanBeKey, key_in, keys_from, keys_in, with_key}
-use Rattle.std.proofs.{
-  Common.{Bool, List, None, Option, Some, ap, append-nil, append_assoc, arith, drop, false, get_or, length, length-append, refl, suc, sym, take, true, zero, ℕ},
-  Common.{[], ◌%◌, ◌*◌, ◌++◌, ◌+◌, ◌/◌, ◌<◌, ◌^◌, ◌∙◌, ◌∷◌, ◌≡◌},
-  Math.Nat.{div-div-eq-div-mul, mod-add-div, pow-suc},
-  lemmas.{Bool.Decides.nat_tests, List.{flat_map_more, take_more}},
-}
-use Rattle.std.specs.{
-  Int.{byte_at, byte_worth, from_le_bytes, sum_through, to_le_bytes, w128},
-  List.{AllByRecursion as Each, flat_map},
-  Prelude.{option_map, ◌==◌},
-}
+use Rattle.std.proofs.{Common.{Bool, List, None, Option, Some, ap, append-nil, append_assoc, arith, drop, false, get_or, length, length-append, refl, suc, take, true, ℕ}, Common.{[], ◌*◌, ◌++◌, ◌+◌, ◌/◌, ◌<◌, ◌∷◌, ◌≡◌}, lemmas.{Bool.Decides.nat_tests, List.{flat_map_more, take_more}}}
+use Rattle.std.specs.{Int.{to_le_bytes, w128}, List.{AllByRecursion as Each, flat_map}, Prelude.{option_map, ◌==◌}}
 
 pub key_back : (n : ℕ) → CanBeKey n → key_in (to_le_bytes w128 n) ≡ Some n
 unfolding key_in

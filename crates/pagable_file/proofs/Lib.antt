@@ -3,4 +3,5 @@ mod Each
 mod Flawed
 mod Keys
 mod Naming
+mod Planned
 mod Stored

@@ -1,5 +1,5 @@
 -- What a file that was opened anew has by a name.
-use Rattle.blob_file.specs.{File.{Content, Same}, Rows.Body}
+use Rattle.blob_file.specs.{File.{Content, Same}}
 use Rattle.pagable_file.specs.{Bodies.{blob_if_some, blobs_of, roots_unless, unless}, Laws.named_blob}
 use Rattle.pagable_value_spec.specs.Blob.{Blob}
 use Rattle.pagable_core.specs.Roots.{Sets}

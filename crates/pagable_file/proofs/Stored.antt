@@ -1,20 +1,11 @@
 -- What a body under a key says of the blob that is stored there.
 use Rattle.blob_file.specs.{File.{Content, Same, SameBlobs, SameNames}, Rows.Body}
 use Rattle.pagable_file.proofs.Keys.{all_back, keys-length}
-use Rattle.pagable_file.specs.Bodies.{CanBeKey, RefusesOther, RefusesRead, blob_if_some, blob_in, blobs_of, body_of, keys_in, roots_unless, unless, with_bytes}
-use Rattle.pagable_core.specs.Roots.{StaysOrTakes, Sets}
+use Rattle.pagable_file.specs.Bodies.{CanBeKey, RefusesOther, RefusesRead, blob_if_some, blob_in, blobs_of, body_of, roots_unless, unless}
+use Rattle.pagable_core.specs.Roots.{StaysOrTakes}
 use Rattle.pagable_value_spec.specs.{Blob.Blob, Stored.{Adds, Keeps, RefusesFetch, RefusesStore}, declared.error.Error.Error}
-use Rattle.std.proofs.{
-  Common.{Bool, List, None, Option, Some, ap, arith, drop, false, inl, inr, length, refl, sym, take, true, ℕ, ◌*◌, ◌++◌, ◌∙◌, ◌≡◌},
-  Math.Seq.{drop-append_seam, take-append_seam},
-  lemmas.Bool.{Decides.nat_tests, eqb-true},
-}
-use Rattle.std.specs.{
-  Int.{to_le_bytes, w128},
-  List.{AllByRecursion as Each, flat_map},
-  Map.update,
-  Prelude.{if◌then◌else◌, nat_eq, option_map, ◌==◌, ◌⊎◌},
-}
+use Rattle.std.proofs.{Common.{Bool, List, None, Option, Some, ap, arith, drop, false, inl, inr, length, refl, sym, take, ℕ, ◌*◌, ◌++◌, ◌∙◌, ◌≡◌}, Math.Seq.{drop-append_seam, take-append_seam}, lemmas.Bool.{Decides.nat_tests, eqb-true}}
+use Rattle.std.specs.{Int.{to_le_bytes, w128}, List.{AllByRecursion as Each, flat_map}, Map.update, Prelude.{nat_eq, ◌⊎◌}}
 use Rattle.pagable_value_spec.specs.declared.error.Error.TheVariants as error
 
 -- a blob is read back from its body

@@ -3,4 +3,5 @@ pub mod Copies
 pub mod Flaws
 pub mod Laws
 pub mod Listed
+pub mod Plans
 pub mod Settled

@@ -1,15 +1,8 @@
 -- A file of blobs is settled in one way only, so that a storage can keep the fact.
-use Rattle.blob_file.specs.{
-  Appending.IsOpen,
-  File.IsSettled,
-  Format.{AreBatches, AreSummed, IsBatch},
-  Log.{IsReady, RestsAt, SameBelow},
-  Rows.{AreFormed, AreTexts, AreWhole},
-  declared.file.BlobFile.BlobFile,
-}
+use Rattle.blob_file.specs.{File.IsSettled, Format.{AreBatches, AreSummed}, Rows.{AreFormed, AreTexts}, declared.file.BlobFile.BlobFile}
 use Rattle.std.proofs.Props.{props}
 use Rattle.sqlite_disk.specs.declared.Disk.{Ghosts}
-use Rattle.std.specs.Prelude.{Bool, IsTrue, List, Option, ℕ, [], ◌&&◌, ◌∷◌}
+use Rattle.std.specs.Prelude.{Bool, List, Option, ℕ, [], ◌&&◌, ◌∷◌}
 
 -- no wrong answer of the disk was taken for true, and no fault of it has shut the file
 abbrev pub is_honest_file : {D : Type 0} → Ghosts D → BlobFile D → Bool

@@ -6,14 +6,14 @@ ghost use Rattle.pagable_file.specs.Laws.{found_blob, named_blob};
 ghost use Rattle.pagable_file.specs.Settled.{is_honest_file};
 ghost use Rattle.pagable_value_spec.specs.Blob.{key_of};
 ghost use Rattle.sqlite_wal.specs.Reads.{IsClean};
-ghost use Rattle.std.specs.Prelude.{IfOk, IfSome, IsTrue, OnOk, Some, false, ◌≡◌};
+ghost use Rattle.std.specs.Prelude.{IfOk, IfSome, IsTrue, OnOk, Some, false, ◌↔◌, ◌≡◌};
 
 use crate::file_blobs::FileBlobs;
 use blob_file::file_error::FileError;
 use pagable_codec::Env;
-use pagable_core::{PagableData, Roots};
+use pagable_core::{PagableData, PagableStorage, Roots};
 use pagable_flavors::{DataKey, Error};
-use sqlite_disk::{Crash, Disk};
+use sqlite_disk::{Crash, Disk, Memory};
 use std::alloc::Global;
 use std::sync::Arc;
 
@@ -151,5 +151,32 @@ pub fn named_after_crash<E: Env, D: Crash + Drop>(
             Err(_) => None,
         },
         Err(_) => None,
+    }
+}
+
+/// Returns whether a storage in memory is honest. It always is, unless memory ran out in a flush, which
+/// shut it.
+pub fn memory_is_honest<E: Env>(blobs: &FileBlobs<E, Memory>) -> bool
+    ensures { IsTrue result ↔ IsTrue (⟦<FileBlobs<E, Memory> as PagableStorage<E>>⟧.is_honest blobs.now) }
+{
+    blobs.file.log.is_whole
+}
+
+/// Stores a blob under a name in memory, flushes, closes the file, opens it again, and looks the name
+/// up: it stands for the key of the blob, and the blob under the key is the one that was stored,
+/// whatever was called before. Returns None if a call fails.
+pub fn named_in_memory<E: Env>(
+    alloc: Global,
+    blobs: FileBlobs<E, Memory>,
+    name: &str,
+    blob: PagableData,
+) -> Option<(FileBlobs<E, Memory>, Option<(DataKey, Arc<PagableData>)>)>
+    ensures { IfSome result (λ r. found_blob r.1 ≡ Some (key_of E.Hash.digest (blob_of blob), blob_of blob)) }
+{
+    let (again, found) = named_again::<E, Memory>(alloc, blobs, name, blob)?;
+    if memory_is_honest(&again) {
+        Some((again, found))
+    } else {
+        None
     }
 }

@@ -15,6 +15,7 @@ pub mod listing;
 pub mod looking;
 pub mod open_error;
 pub mod opening;
+mod root_check;
 mod roots;
 pub mod stats;
 pub mod watch;

@@ -1,8 +1,8 @@
 //! A list of a file's blobs, without their bytes.
 
-ghost use Rattle.blob_file.specs.File.{stored};
+ghost use Rattle.blob_file.specs.File.{stored, tail_of};
 ghost use Rattle.blob_file.specs.declared.listing.ListedBlob.{ListedBlob as FileEntry};
-ghost use Rattle.pagable_file.specs.{Listed.{ListsStored, entry_of}, Settled.is_honest_file};
+ghost use Rattle.pagable_file.specs.{Flaws.Stays, Listed.{ListsStored, entry_of}, Settled.is_honest_file};
 ghost use Rattle.pagable_value_spec.specs.Stored.{IsMemoryOrFailure};
 ghost use Rattle.std.specs.Prelude.{IfErr, IfOk, IsTrue, false, length, map, ◌≡◌, ◌≤◌};
 
@@ -72,6 +72,29 @@ impl<E: Env, D: Disk + Drop> FileBlobs<E, D> {
         }
         match self.file.list(alloc) {
             Ok(entries) => list_entries(alloc, &mut self.stats, entries.as_slice()),
+            Err(error) => Err(count_file_error(&mut self.stats, error)),
+        }
+    }
+
+    /// Counts the bytes of the file behind the gate where its flushes end. They say nothing: a crash in
+    /// a flush left them, or a flush that failed, or the file was cut there. A closed storage has none.
+    ///
+    /// # Errors
+    ///
+    /// - `Storage`; the call raised the count of failures then.
+    pub fn count_tail(&mut self) -> Result<u64, Error>
+        ensures counted { self.old.closed ≡ false → IsTrue (is_honest_file D.Disk self.new.file)
+            → IfOk result (λ count. count ≡ tail_of (D.Disk.seen self.old.file.log.disk)) }
+        ensures stays { Stays D.Disk self.old.file self.new.file }
+        ensures only { IfErr result (IsMemoryOrFailure self.old.stats.failures self.new.stats.failures) }
+        ensures failures_never_fall { self.old.stats.failures ≤ self.new.stats.failures }
+        ensures open { self.new.closed ≡ self.old.closed }
+    {
+        if self.closed {
+            return Ok(0);
+        }
+        match self.file.count_tail() {
+            Ok(count) => Ok(count as u64),
             Err(error) => Err(count_file_error(&mut self.stats, error)),
         }
     }

@@ -64,8 +64,8 @@ impl<E: Env> FileBlobs<E, HostDisk<Wary>> {
     ///
     /// # Errors
     ///
-    /// The causes in [`OpenError`]: `Missing`, `NotAFile`, `MayNotRead`, `FolderMissing`, `NotBlobs`,
-    /// `Damaged`, `OutOfMemory` or `Io`.
+    /// The causes in [`OpenError`]: `Missing`, `NotAFile`, `MayNotRead`, `FolderMissing`, `LinkLoop`,
+    /// `NotBlobs`, `Damaged`, `OutOfMemory` or `Io`.
     pub fn read(rt: &HostRuntime, path: &str) -> Result<FileBlobs<E, HostDisk<Wary>>, OpenError>
         ensures usable { IfOk result (λ blobs. blobs.closed ≡ false) }
         ensures looks { IfOk result (λ blobs. blobs.file.log.may_write ≡ false) }

@@ -21,6 +21,8 @@ pub enum OpenError {
     Missing,
     /// The path's folder is missing, or is none.
     FolderMissing,
+    /// The path's links lead round in a ring, or are more than the system follows.
+    LinkLoop,
     /// The path named another file each time it was opened.
     Replaced,
     /// The file has bytes, and they aren't those of a file of blobs.
@@ -40,6 +42,7 @@ impl From<HostError> for OpenError {
             HostError::MayNotRead => OpenError::MayNotRead,
             HostError::Missing => OpenError::Missing,
             HostError::FolderMissing => OpenError::FolderMissing,
+            HostError::LinkLoop => OpenError::LinkLoop,
             HostError::Replaced => OpenError::Replaced,
             HostError::Failed(_) => OpenError::Io,
         }
@@ -71,6 +74,7 @@ impl fmt::Display for OpenError {
             OpenError::MayNotRead => "the file may not be read",
             OpenError::Missing => "there is no such file",
             OpenError::FolderMissing => "there is no such folder",
+            OpenError::LinkLoop => "the path's links don't come to an end",
             OpenError::Replaced => "the path names another file each time",
             OpenError::NotBlobs => "the file is none of blobs",
             OpenError::Damaged => "the file is damaged",

@@ -1,5 +1,5 @@
 use Rattle.pagable_file.proofs.Keys.{keys-length}
-use Rattle.std.proofs.{Common.{arith, length, rules, ◌*◌, ◌++◌, ◌≡◌, ◌≤◌}, lemmas.List.length-append}
+use Rattle.std.proofs.{Common.{arith, length, rules, ◌++◌, ◌≡◌}, lemmas.List.length-append}
 use Rattle.std.specs.{Int.{to_le_bytes, w128}, List.flat_map}
 use Rattle.pagable_file.proofs.file_blobs.add_blob.Goals as goal
 

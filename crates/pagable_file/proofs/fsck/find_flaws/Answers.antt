@@ -10,4 +10,4 @@ returns-clause-tested g c sure =
     let new = c.test_blobs.new.file in
     let same = c.test_blobs.ensures.stays.content in
     all_found of (stored g.D.Disk old) (stored g.D.Disk new) (named old) (named new) c.new-flaws.ensures.items (bodies_same g.D.Disk old new same)
-    (names_same g.D.Disk old new same) (c.in_ok-test_blobs.ensures.tested (named old) sure) (c.in_ok-test_names.ensures.tested of)
+    (names_same g.D.Disk old new same) (c.in_ok-test_blobs.ensures.tested sure) c.in_ok-test_names.ensures.tested

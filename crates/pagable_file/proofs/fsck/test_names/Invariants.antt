@@ -1,8 +1,7 @@
 use Rattle.blob_file.specs.File.{Lists, named, stored}
-use Rattle.pagable_file.specs.Flaws.{AddsFlawsUnless, IsFlaw, IsSoundName}
-use Rattle.pagable_value_spec.specs.Blob.{Blob}
-use Rattle.std.proofs.Common.{map, take, ℕ}
-use Rattle.std.specs.{List.AllByRecursion, String.string_bytes}
+use Rattle.pagable_file.specs.Flaws.{IsMissingRoot, IsOfSome, IsSoundName, TellsFlaws}
+use Rattle.std.proofs.Common.{String, map, take}
+use Rattle.std.specs.{Global.Global, List.AllByRecursion, String.string_bytes}
 use Rattle.pagable_file.proofs.fsck.test_names.Given as goal
 
 -- the names so far were tested
@@ -10,5 +9,6 @@ abbrev pub invariant-loop-name : goal.invariant-loop-name
 invariant-loop-name g l =
     let bodies = stored g.D.Disk l.file in
     let names = named l.file in
-    Lists names (map string_bytes l.name-items) × ((of : Blob → ℕ) → AddsFlawsUnless (IsFlaw of bodies names) l.fn.flaws.items l.flaws.items
-    (AllByRecursion (λ n. IsSoundName bodies names (string_bytes n)) (take l.name-index l.name-items)))
+    Lists names (map string_bytes l.name-items)
+    × TellsFlaws (IsOfSome (λ (n : String Global). IsMissingRoot bodies names (string_bytes n)) (take l.name-index l.name-items)) l.fn.flaws.items l.flaws.items
+    (AllByRecursion (λ n. IsSoundName bodies names (string_bytes n)) (take l.name-index l.name-items))
