@@ -27,7 +27,8 @@ NAMES = {"threads": "threads", "crate_tests": "crates"}
 # What the tests of each folder may use beside what the crate does.
 USES = {
     "threads": "pagable_examples pagable_value_rows indexmap smallvec",
-    "crate_tests": "pagable pagable_budget pagable_changes pagable_file sha2 sha256_lanes sqlite_disk",
+    "crate_tests": "pagable pagable_budget pagable_changes pagable_file pagable_typed declared_types history sha2 "
+    "sha256_lanes sqlite_disk",
 }
 
 

@@ -1,7 +1,7 @@
 #!/usr/bin/env python3
 """Runs `pagable_derive` on declarations that can't be printed, on folders that it printed or not, and on the
-declaration of `declared_types`, whose folder has to be what it prints; its status is 0 if it says each time what it has
-to say.
+declarations of the printed crates of this repository, whose folders have to be what it prints; its status is 0 if it
+says each time what it has to say.
 
     tools/declarations/check.py [PROGRAM]
 
@@ -14,7 +14,9 @@ import sys
 import tempfile
 
 HERE = pathlib.Path(__file__).resolve().parent
-CRATES, DECLARED = HERE.parent.parent / "crates", HERE.parent / "crates" / "pagable_derive" / "data" / "types.decl"
+CRATES, DECLARATIONS = HERE.parent.parent / "crates", HERE.parent / "crates" / "pagable_derive" / "data"
+# The printed crates, and their declarations.
+PRINTED = {"declared_types": "types.decl"}
 sys.dont_write_bytecode = True
 sys.path.insert(0, str(HERE.parent / "speed"))
 import build  # noqa: E402
@@ -30,8 +32,9 @@ FAULTS = [
     ("pub struct\n/// Amid.\nA { pub a: u8 }", 3, "a doc comment stands before a type, a field or a case"),
     ("pub struct A { pub a: u8,\n, }", 3, "expected a field, a case or a type before `,`"),
     ("env Other;", 2, "a declaration has one environment"),
-    ("struct A { pub a: u8 }", 2, "expected `pub struct` or `pub enum`"),
-    ("pub union A { pub a: u8 }", 2, "expected `struct` or `enum`"),
+    ("struct A { pub a: u8 }", 2, "expected `pub` and a type"),
+    ("pub union A { pub a: u8 }", 2, "expected `struct`, `enum` or `tagged enum`"),
+    ("pub tagged struct A { pub a: u8 }", 2, "expected `enum`"),
     ("pub struct { pub a: u8 }", 2, "expected the name of the type"),
     ("pub struct A", 2, "expected the fields in `{}` or `()`"),
     ("pub struct A;", 2, "expected the fields in `{}` or `()`"),
@@ -69,8 +72,11 @@ FAULTS = [
     ("pub struct A {\n pub a: Loose }", 3, "expected one type of the declaration in `<>`"),
     ("pub struct A {\n pub a: B }\npub struct B(pub u8);", 3,
      "`B` stands in a reference alone: `Loose<B>`"),
-    ("pub struct A {\n pub a: Shared<A> }", 3, "a reference is `Loose`: no other is printed yet"),
-    ("pub struct A {\n pub a: Vec<Pinned<A>> }", 3, "a reference is `Loose`: no other is printed yet"),
+    ("pub struct A {\n pub a: Shared<A> }", 3,
+     "`A` doesn't stand above this type: only `Loose<A>` may refer to it"),
+    ("pub struct A {\n pub a: Vec<Pinned<B>> }\npub struct B(pub u8);", 3,
+     "`B` doesn't stand above this type: only `Loose<B>` may refer to it"),
+    ("pub struct A {\n pub a: Shared<B> }", 3, "no type of this declaration is called `B`"),
     ("pub struct A {\n pub a: Vec<u8, u8> }", 3, "`Vec` takes 1 types"),
     ("pub struct A {\n pub a: u8<u8> }", 3, "`u8` takes 0 types"),
     ("pub struct A {\n pub a: (u8) }", 3, "a tuple has two to five parts"),
@@ -174,10 +180,8 @@ def check(program):
     with tempfile.TemporaryDirectory() as folder:
         work = pathlib.Path(folder)
         count = check_faults(run, work) + check_words(run, work) + check_folder(run, work)
-    crate = CRATES / "declared_types"
-    # (until the crate is printed it is written by hand)
-    if (crate / "src/lib.rt").exists() and (crate / "src/lib.rt").read_text().startswith("// Printed"):
-        expect(run("--check", DECLARED, "declared_types", crate), (0, "", ""), "declared_types")
+    for crate, declaration in PRINTED.items():
+        expect(run("--check", DECLARATIONS / declaration, crate, CRATES / crate), (0, "", ""), crate)
         count += 1
     print(f"declarations: {count} runs as they have to be")
 

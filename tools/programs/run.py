@@ -2,7 +2,7 @@
 """Runs the programs whose files last, each several times on one file or folder, and compares what they say and write
 with plain models; its status is 0 if all is the same.
 
-    tools/programs/run.py [PROGRAM..]        (with no word: build_cache, heap_snapshot, spreadsheet and remote)
+    tools/programs/run.py [PROGRAM..]        (with no word: each, as `PROGRAMS` lists them)
 
 They are built unproved, by `rt try`, as tools/speed/build.py says, in a copy of the repository's crates. Each is also
 run once on the words, input and files that stand beside its code, and has to print what is stored there.
@@ -229,8 +229,26 @@ def remote(program, work):
     return runs
 
 
+def stock(program, work):
+    """Wrong calls, and parts that are added run by run, with the list that each run in between prints."""
+    usage = "stock FILE add LABEL NUMBER | stock FILE list"
+    calls = [[], ["a"], ["a", "look"], ["a", "list", "b"], ["a", "add", "b"], ["a", "add", "b", "c"]]
+    expect_usage(program, usage, *calls, ["a", "add", "b", "18446744073709551616"])
+    store, said = work / "parts", ""
+    for count in range(8):
+        expect(run(program, [store, "list"]), (0, said), f"the list of {count} parts")
+        label, number = "ab" * random.randrange(200), random.randrange(2**64)
+        expect(run(program, [store, "add", label, number]), (0, ""), "a part more")
+        said = f"{label} {number}\n{said}"
+    expect(run(program, [store, "list"]), (0, said), "the whole list")
+    return 24
+
+
+PROGRAMS = ["build_cache", "heap_snapshot", "spreadsheet", "remote", "stock"]
+
+
 def main():
-    for name in sys.argv[1:] or ["build_cache", "heap_snapshot", "spreadsheet", "remote"]:
+    for name in sys.argv[1:] or PROGRAMS:
         random.seed(name)
         with tempfile.TemporaryDirectory() as folder:
             folder = pathlib.Path(folder)

@@ -1,3 +1,4 @@
+// Printed by pagable_derive: change the declaration instead.
 //! One of three cases.
 
 ghost use Rattle.declared_types.specs.Types.{choice_case, choice_cases, choice_encoding};
@@ -11,7 +12,7 @@ use pagable_traits::{
 };
 use std::alloc::Global;
 
-/// A loose reference to a choice, whose type number is 1.
+/// A loose reference to a value of `Choice`, whose type number is 1.
 pub type ChoiceRef = RawRef<4>;
 
 /// One of three cases.

@@ -1,7 +1,10 @@
-//! The value types of a store, as `pagable_derive` prints them.
+// Printed by pagable_derive: change the declaration instead.
+//! Types of values, and their environment.
 //!
-//! - `part`, `choice` and `table`: a type each, and how its values are written and read.
-//! - `store`: the environment of these types, and its nodes.
+//! - `part`: the type `Part`, and how its values are written and read.
+//! - `choice`: the type `Choice`, and how its values are written and read.
+//! - `table`: the type `Table`, and how its values are written and read.
+//! - `store`: the environment `Store` of these types, and its nodes.
 #![tactic(auto)]
 
 pub mod choice;

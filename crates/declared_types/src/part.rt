@@ -1,3 +1,4 @@
+// Printed by pagable_derive: change the declaration instead.
 //! A part of a store: a number, a label, the next part, and a choice.
 
 ghost use Rattle.declared_types.specs.Types.{part_encoding};
@@ -11,7 +12,7 @@ use pagable_traits::{
 };
 use std::alloc::Global;
 
-/// A loose reference to a part, whose type number is 0.
+/// A loose reference to a value of `Part`, whose type number is 0.
 pub type PartRef = RawRef<1>;
 
 /// A part of a store: a number, a label, the next part, and a choice.

@@ -1,4 +1,5 @@
-//! The environment of parts, choices and tables.
+// Printed by pagable_derive: change the declaration instead.
+//! The environment of `Part`, `Choice` and `Table`.
 
 ghost use Rattle.declared_types.specs.Nodes.{store_held};
 ghost use Rattle.pagable_nodes.specs.NodeCases.{type_is_small};
@@ -14,7 +15,7 @@ use pagable_traits::{ArcRef, Env, NodeSet, OfNode, PagableDeserializer, PagableS
 use std::alloc::Global;
 use std::sync::Arc;
 
-/// The environment of parts, choices and tables. Keys are computed by SHA-256.
+/// The environment of `Part`, `Choice` and `Table`. Keys are computed by SHA-256.
 #[derive(Drop)]
 pub struct Store;
 
@@ -32,7 +33,7 @@ impl Env for Store {
     ghost parts = { λ e number. nothing };
 }
 
-/// A node: a value of one of the types, which have the numbers 0, 1, 2 in this order.
+/// A node: a value of one of the types, whose numbers are their places here, from 0.
 #[derive(Drop)]
 pub enum StoreNode {
     Part(Arc<Part>),
@@ -44,8 +45,7 @@ impl NodeSet<Store> for StoreNode {
     ghost use Rattle.declared_types.specs.Nodes.{store_case, store_types};
     ghost use Rattle.pagable_nodes.specs.{
       Cases.shape_of,
-      NodeCases.{case_has_meaning, case_refers, typed_has_shape, typed_reads, typed_shape},
-      NodeCases.typed_writes,
+      NodeCases.{case_has_meaning, case_refers, typed_has_shape, typed_reads, typed_shape, typed_writes},
     };
     ghost use Rattle.pagable_traits.specs.HeldValues.{only_references};
     ghost use Rattle.pagable_value_spec.specs.References.{references_in};

@@ -1,3 +1,4 @@
+// Printed by pagable_derive: change the declaration instead.
 //! A list of parts, and counts by names.
 
 ghost use Rattle.declared_types.specs.Types.{table_encoding};
@@ -12,7 +13,7 @@ use pagable_traits::{
 use std::alloc::Global;
 use std::collections::BTreeMap;
 
-/// A loose reference to a table, whose type number is 2.
+/// A loose reference to a value of `Table`, whose type number is 2.
 pub type TableRef = RawRef<7>;
 
 /// A list of parts, and counts by names.

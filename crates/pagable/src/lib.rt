@@ -74,7 +74,7 @@ pub mod impls {
 /// The pager, the machine that runs lists of events, and the references to shared values.
 pub mod pagable_arc {
     pub use pagable_calls::machine::Machine;
-    pub use pagable_pager::{ArcCell, DeserializedArcCache, Pager};
+    pub use pagable_pager::{ArcCell, DeserializedArcCache, Pager, PagerStats};
     pub use pagable_pager_spec::handle_row::Owner;
     pub use pagable_pager_spec::{
         Action, Beginning, Call, Claim, Event, EventReply, FetchTarget, Found, LoadAnswer,
@@ -211,7 +211,7 @@ pub use pagable_locked::{
 pub use pagable_pageout::{
     Claims, LentTable, PageOutError, SlotResult, page_out_item_over, page_out_pending_over,
 };
-pub use pagable_pager::{ArcCell, DeserializedArcCache, Lent, Pager};
+pub use pagable_pager::{ArcCell, DeserializedArcCache, Lent, Pager, PagerStats};
 pub use pagable_pager_spec::handle_row::Owner;
 pub use pagable_pager_spec::{
     Action, Beginning, Call, Claim, Event, EventReply, FetchTarget, Found, LoadAnswer, LoadReply,

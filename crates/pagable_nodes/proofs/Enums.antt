@@ -30,7 +30,7 @@ no-case nest known shape n m lack b k (case-form _ _ _ _ _ _ c j lt is f) = lack
 
 -- ---- cases: a value's number is that of a case, whose causes are among those of the enum
 
-written-among : (all : Cases) (n : ℕ) → is_case all n ≡ true → (e : Error) → (encoding_of all n).writes.are e → (writes_of all).are e
+pub written-among : (all : Cases) (n : ℕ) → is_case all n ≡ true → (e : Error) → (encoding_of all n).writes.are e → (writes_of all).are e
 written-among no_more n is e h = cc
 written-among (case a more) zero is e h = inl h
 written-among (case a more) (suc n) is e h = inr (written-among more n is e h)

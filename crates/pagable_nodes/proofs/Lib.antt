@@ -2,3 +2,4 @@ pub mod Causes
 pub mod Alone
 pub mod Held
 pub mod Enums
+pub mod Tags

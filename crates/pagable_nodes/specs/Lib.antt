@@ -5,3 +5,5 @@ pub mod NodeCases
 pub mod Nodes
 pub mod Records
 pub mod Bytes
+pub mod HeldFields
+pub mod Tags
