@@ -83,7 +83,7 @@ OTHER_NAMES = {
 }
 GUARD = re.compile(r"(?<![.\w])pager\b(?!\s*\.)")
 # A file that a page shows, and what it shows.
-SHOWN = re.compile(r"This is\s`((?:tools/)?crates/\S+\.(?:rt|rattle))`[^`]*\n\n```rust\n(.*?)```", re.S)
+SHOWN = re.compile(r"This is\s`((?:tools/)?crates/\S+\.(?:rt|rattle|decl))`[^`]*\n\n```rust\n(.*?)```", re.S)
 PART = re.compile(r"From\s`((?:tools/)?crates/\S+\.(?:rt|rattle))`[^`]*\n\n```rust\n(.*?)```", re.S)
 PRINTED = re.compile(r"This is\s`(crates/\S+/stdout)`(?:.|\n(?!\n))*\n\n((?: {4}.*\n)+)")
 KEPT = re.compile(r"let (?:mut )?pager = |Lent::(?:new|for_owner)\(&mut \*pager\b")

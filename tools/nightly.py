@@ -28,7 +28,7 @@ def parts(seed):
     yield "the program of rows", ["tools/speed/build.py", "--crate", "rows", "nightly/rows"]
     hostile = ["tools/hostile/run.py", "--rows", "nightly/rows", "--pagectl", PAGECTL, "--blobctl", BLOBCTL]
     yield "hostile input", hostile
-    yield "files of blobs", ["tools/file_blobs/check.py", BLOBCTL, "300", "60", seed]
+    yield "files of blobs", ["tools/file_blobs/check.py", BLOBCTL, "200", "60", seed]
 
 
 def run(name, words, log):

@@ -43,10 +43,13 @@ import original_rows  # noqa: E402
 import pagectl  # noqa: E402
 import pictures  # noqa: E402
 import plain_file  # noqa: E402
+import plain_lines  # noqa: E402
 import plain_pager  # noqa: E402
 import plain_rows  # noqa: E402
 import plain_script  # noqa: E402
 import plain_values  # noqa: E402
+import power  # noqa: E402
+import refusing  # noqa: E402
 import rows  # noqa: E402
 import shared  # noqa: E402
 import speed_sums  # noqa: E402
@@ -134,7 +137,7 @@ LOCKS = [
 def check_text(work):
     """A want of memory that is invented, two calls under the lock, a lock by another name, pages with other code than
     the file's, and an item that the index lacks."""
-    leave = shutil.ignore_patterns("out", "proofs", "specs", "must-fail", "data")
+    leave = shutil.ignore_patterns("out", "proofs", "specs", "must-fail")
     for folder in ("crates", "tools/crates"):
         shutil.copytree(TOP / folder, work / folder, ignore=leave)
     (work / "docs").mkdir()
@@ -690,6 +693,46 @@ def files(work):
     yield "", asking.lost(blobctl, work / "none", roots, 0, 3) or ""
 
 
+def power_cuts(_):
+    """A run that lacks a sync: that of a batch, that of its gate, that of the file's name."""
+    blob = plain_file.blob(b"one")
+    batch = plain_file.batch([blob], [(b"main", blob[0])])
+    sync, shut = ("sync", "file", 1), plain_file.SHUT
+    made = [("make", "/f", 1), ("sync", "folder", "/"), ("write", 1, 0, plain_file.HEADER + shut), sync]
+    events = [*made, ("write", 1, 17, batch[1:] + shut), sync, ("write", 1, 16, b"\1"), sync, ("answer", "flushed\n")]
+    for left_out, why in [(None, ""), (5, "is damaged"), (7, "blobs"), (1, "blobs")]:
+        asking.DRAWN.seed(1)
+        cuts = power.Cuts([it for at, it in enumerate(events) if at != left_out], "/f", power.answers).run(20)
+        yield why, f"{cuts.bad[0]}" if cuts.bad else ""
+
+
+def refused_calls(work):
+    """A run that forgets what it answered, one that answers otherwise, and one that names another cause."""
+    key, file = asking.key_of(b"\1"), work / "file"
+    whole, asked = plain_file.file_of(plain_file.batch([plain_file.blob(b"\1")])), ["put 01", "flush"]
+    runs = [
+        (whole, [key, "flushed"], ""), (plain_file.file_of(), [key, "error: the disk failed"], ""),
+        (plain_file.file_of(), [key, "flushed"], "the file shows"), (whole, [key[::-1], "flushed"], "is answered"),
+        (whole, [key, "error: it failed"], "says"), (whole, [key], "1 answers"),
+    ]
+    for content, said, why in runs:
+        file.write_bytes(content)
+        done = types.SimpleNamespace(stdout="".join(f"{line}\n" for line in said), stderr="", returncode=0)
+        again = lambda *_, done=done, **more: file.write_bytes(whole) and done  # noqa: E731
+        with mock.patch.object(refusing, "run", again):
+            yield why, refusing.checked(work, file, plain_file.file_of(), asked, done, refusing.plain_state(file)
+                                        if content == whole else ({key: (0, b"\1")}, {})) or ""
+
+
+def plain_answers(_):
+    """An answer that isn't the plain one, and one too many."""
+    asked, key = ["put 01", "stat", "what"], asking.key_of(b"\1")
+    told = [key, "1 blobs, 1 bytes, 0 names", "bad line"]
+    other = [key, "1 blobs, 2 bytes, 0 names", "bad line"]
+    for said, why in [(told, ""), (other, "in place of"), ([*told, "more"], "lines more")]:
+        yield why, plain_lines.compared(asked, said) or ""
+
+
 def host_files(work):
     """An open that takes no lock, and a look that writes."""
     check = module_at("check_of_host_files", HERE / "host_files" / "check.py")
@@ -770,8 +813,9 @@ TOOLS = {
     "failures/hostile.py": hostile_input, "failures/middle.py": rows_in_the_middle, "failures/naming.py": names,
     "failures/table.py": refusals, "failures/pagectl.py": scripts, "fuzz.py": fuzzed, "programs": programs,
     "gate.py": of_gate, "gate_times.py": of_times, "file_blobs": files, "host_files": host_files,
-    "file_blobs/plain_file.py": plain_files, "declarations": declarations, "hostile": hostile_run, "rows": data_rows,
-    "nightly.py": of_night,
+    "file_blobs/power.py": power_cuts, "file_blobs/refusing.py": refused_calls,
+    "file_blobs/plain_lines.py": plain_answers, "file_blobs/plain_file.py": plain_files,
+    "declarations": declarations, "hostile": hostile_run, "rows": data_rows, "nightly.py": of_night,
 }
 
 

@@ -35,6 +35,7 @@ NEEDED = {
     "cc": "no C compiler: install gcc or clang",
     "git": "no git: install it",
     "sqlite3": "no sqlite3: install it",
+    "strace": "no strace: install it",
     "rt": "no rt: put the toolchain's bin into PATH",
     "time": "no GNU time: install it",
     "valgrind": "no valgrind: install it",
