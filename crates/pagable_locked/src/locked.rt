@@ -1,12 +1,14 @@
 //! Access to a pager behind a lock, for a caller or a page-out worker. Between any two of its calls
 //! other threads may make theirs, so contracts tell nothing of the pager's state.
 
+ghost use Rattle.pagable_core.specs.Data.{blob_of};
 ghost use Rattle.pagable_load.specs.{
   AccessView.{Acts, IfKnown, IsReadBy, MakesCallBringing, values_at},
   PinStart.ended_of,
 };
 ghost use Rattle.pagable_pager_spec.specs.{LoadCalls.EndCall, Pager.{IsCellOf, PagerState, ValueCall}};
-ghost use Rattle.std.specs.{Arc.arc_value, Prelude.{IfOk, None, Ok, Some, true, ◌≡◌}};
+ghost use Rattle.pagable_value_spec.specs.Blob.{key_of};
+ghost use Rattle.std.specs.{Arc.arc_value, Prelude.{IfOk, None, Ok, Some, map, true, vec_len, ◌≡◌, ◌≤◌}};
 
 use crate::lock::lock_briefly;
 use either::Either;
@@ -15,7 +17,7 @@ use pagable_core::{PagableData, PagableStorage, SessionOf, Setting};
 use pagable_load::{
     Access, EndedLoad, PinnedOrLoading, StartedPin, TakenValue, WorkerAccess, WorkerNode,
 };
-use pagable_pager::{Lent, Pager};
+use pagable_pager::{Lent, Pager, TakenLeaf, WrittenLeaves, write_leaves};
 use pagable_pager_spec::handle_row::Owner;
 use pagable_value_spec::{
     ArcRef, DataKey, Error, HandleNumber, Kind, LoadNumber, NodeNumber, OptionalDataKey,
@@ -201,6 +203,29 @@ impl<'a, R: Wait, E: Env<Node: NodeSet<E>>, S: PagableStorage<E>> Access<E>
     }
 }
 
+impl<'a, R: Wait, E: Env<Node: NodeSet<E>>, S: PagableStorage<E>> Locked<'a, R, E, S> {
+    // Takes leaves off the page-out list, as `Lent::take_leaves` does.
+    fn take_leaves(&self, alloc: Global, left: usize) -> Result<Vec<TakenLeaf<E::Node>>, Error>
+        ensures { IfOk result (λ taken. vec_len taken ≤ left) }
+    {
+        let mut pager = lock_briefly(self.pager, self.rt);
+        Ok(Lent::for_owner(&mut *pager, self.me)?.take_leaves(alloc, left))
+    }
+
+    // Stores what taken leaves were written as, as `Lent::finish_leaves` does.
+    fn finish_leaves(
+        &self,
+        alloc: Global,
+        taken: &[TakenLeaf<E::Node>],
+        written: WrittenLeaves,
+    ) -> Result<(), Error>
+        requires { written.keys.items ≡ map (λ blob. key_of E.Hash.digest (blob_of blob)) written.blobs.items }
+    {
+        let mut pager = lock_briefly(self.pager, self.rt);
+        Lent::for_owner(&mut *pager, self.me)?.finish_leaves(alloc, taken, written)
+    }
+}
+
 impl<'a, R: Wait, E: Env<Node: NodeSet<E>>, S: PagableStorage<E>> WorkerAccess<E>
     for Locked<'a, R, E, S> {
     fn check_reference(&self, reference: ArcRef) -> Result<(), Error> {
@@ -304,7 +329,18 @@ impl<'a, R: Wait, E: Env<Node: NodeSet<E>>, S: PagableStorage<E>> WorkerAccess<E
         }
     }
 
-    fn page_out_leaves(&mut self, _alloc: Global, left: usize) -> Result<usize, Error> {
-        Ok(left)
+    // Holds the lock twice for up to four leaves, and writes and hashes them between the two.
+    fn page_out_leaves(&mut self, alloc: Global, left: usize) -> Result<usize, Error> {
+        let taken = self.take_leaves(alloc, left)?;
+        if taken.is_empty() {
+            return Ok(left);
+        }
+        let written = write_leaves(&self.setting.env, &self.setting.session, alloc, &taken);
+        let refused = written.refused;
+        self.finish_leaves(alloc, &taken, written)?;
+        match refused {
+            Some(e) => Err(e),
+            None => Ok(left - taken.len()),
+        }
     }
 }

@@ -12,4 +12,5 @@ pub mod LeafBatches
 pub mod LeafRuns
 pub mod LeafPins
 pub mod LentPins
+pub mod TakenLeaves
 mod OwnKeys

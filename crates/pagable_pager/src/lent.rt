@@ -23,6 +23,8 @@ ghost use Rattle.pagable_tables.specs.{HandleTable.room, Leaf.IsLeaf, Soundness.
 ghost use Rattle.pagable_value_spec.specs.Blob.{key_of};
 ghost use Rattle.std.specs.{Arc.arc_value, Option.option_map, Prelude.{IfErr, IfOk, IfSome, IsTrue, None, Ok, Some, if◌then◌else◌, true, ◌≡◌, ◌≤◌}};
 
+pub mod leaves;
+
 use crate::pager::Pager;
 use crate::pager::leaf::read_leaf;
 use crate::pins::{read_rest, reading_with_root};

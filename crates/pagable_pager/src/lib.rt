@@ -7,6 +7,7 @@ pub mod pager;
 pub mod pins;
 mod setting;
 
+pub use lent::leaves::{TakenLeaf, WrittenLeaves, write_leaves};
 pub use lent::{ArcCell, DeserializedArcCache, Lent};
 pub use pager::Pager;
 pub use pager::stats::PagerStats;

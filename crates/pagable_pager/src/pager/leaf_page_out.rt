@@ -5,6 +5,7 @@
 ghost use Rattle.pagable_core.specs.Data.{blob_of};
 ghost use Rattle.pagable_load.specs.{AccessView.values_at, WorkerCalls.PagesLeaves};
 ghost use Rattle.pagable_pager.specs.{
+  TakenLeaves.HoldsBare,
   LeafPageOut.{AreNewFor, AreShared, AreWritten, IsBareAt, IsShared, IsWritten, PagesLeafIfThere, WritesBare},
   LeafPageOut.{WritesLeaf, leaf_keys, with_entry_paged, with_entry_relisted},
   View.{AddsNoValue, BetweenIfHonest, Calls, ChangesOnlyTables, FewerValues, KeepsWorkers, pager_core, pager_state},
@@ -18,7 +19,7 @@ ghost use Rattle.pagable_pager_spec.specs.{
 };
 ghost use Rattle.pagable_tables.specs.LeafEntry.{IsLeafEntry, with_worker_numbers};
 ghost use Rattle.pagable_value_spec.specs.Blob.{key_of};
-ghost use Rattle.std.specs.Prelude.{IfOk, IfSome, IsTrue, List, Some, length, map, ◌+◌, ◌<◌, ◌≡◌, ◌≤◌};
+ghost use Rattle.std.specs.{Arc.arc_value, Prelude.{IfOk, IfSome, IsTrue, List, Some, length, map, ◌+◌, ◌<◌, ◌≡◌, ◌≤◌}};
 
 use crate::pager::Pager;
 use pagable_codec::{Env, KeyHash, NodeSet};
@@ -29,8 +30,8 @@ use pagable_value_spec::{DataKey, Error, HandleNumber, Kind, NodeNumber};
 use std::alloc::Global;
 use std::sync::Arc;
 
-// How many leaves are paged out at once: so many messages have their hashes made in lanes.
-const LEAVES_AT_ONCE: usize = 4;
+/// How many leaves are paged out at once: so many messages have their hashes made in lanes.
+pub(crate) const LEAVES_AT_ONCE: usize = 4;
 
 /// The node of an entry of the page-out list, and its value.
 #[derive(Drop)]
@@ -46,25 +47,25 @@ struct WrittenLeaf {
     blob: PagableData,
 }
 
-// Writes a value without references as a blob. Returns None if it has references, or can't be
-// written.
-fn write_bare<E: Env<Node: NodeSet<E>>>(
+// Writes a value without references as a blob. Fails as writing it does, or with WrongMode if it has
+// references.
+pub(crate) fn write_bare<E: Env<Node: NodeSet<E>>>(
     env: &E,
     session: &SessionOf<E>,
     alloc: Global,
     value: &E::Node,
-) -> Option<PagableData>
-    ensures { IfSome result (λ blob. WritesBare (values_at E.Node.NodeSet E.Env E.Hash.KeyHash env.now) value.now
+) -> Result<PagableData, Error>
+    ensures { IfOk result (λ blob. WritesBare (values_at E.Node.NodeSet E.Env E.Hash.KeyHash env.now) value.now
         (blob_of blob)) }
 {
     let mut serializer = SerializerForPaging::new(alloc, env, session);
-    value.write(&mut serializer).ok()?;
+    value.write(&mut serializer)?;
     let (bytes, references) = serializer.finish();
     if !references.is_empty() {
-        return None;
+        return Err(Error::WrongMode);
     }
     let arcs = Vec::new(alloc);
-    Some(PagableData { bytes, arcs })
+    Ok(PagableData { bytes, arcs })
 }
 
 // Writes the values of leaves as blobs, from the last on, up to the first that has references or
@@ -81,7 +82,7 @@ fn write_leaves<E: Env<Node: NodeSet<E>>>(
     let Some(leaf) = shared.pop() else {
         return Vec::new(alloc);
     };
-    let Some(blob) = write_bare(env, session, alloc, leaf.value.as_ref()) else {
+    let Ok(blob) = write_bare(env, session, alloc, leaf.value.as_ref()) else {
         return Vec::new(alloc);
     };
     let node = leaf.node;
@@ -124,6 +125,21 @@ impl<E: Env<Node: NodeSet<E>>, S: PagableStorage<E>> Pager<E, S> {
         let entry = leaf_entry::find_unkeyed_entry(&self.tables, place)?;
         Kind::loose_of(entry.node_type)?;
         Some(entry)
+    }
+
+    /// Returns the value of the cell of the entry at this place of the page-out list, if the cell has no
+    /// key, and the value is in memory and refers to nothing.
+    pub(crate) fn bare_entry(&self, alloc: Global, place: usize) -> Option<Arc<E::Node>>
+        ensures { IfSome result (λ value. HoldsBare (values_at E.Node.NodeSet E.Env E.Hash.KeyHash self.now.environment)
+            (pager_state S.PagableStorage self.now) place (arc_value value)) }
+    {
+        let entry = self.leaf_entry(place)?;
+        let value = self.values.get(entry.row.node.0)?;
+        let references = value.refs(alloc).ok()?;
+        if !references.is_empty() {
+            return None;
+        }
+        value.clone().ok()
     }
 
     /// Uses up the numbers of a worker and of two handles.
