@@ -6,7 +6,7 @@ ghost use Rattle.pagable_traits.specs.HeldValues.{only_references};
 
 use crate::part::PartRef;
 use pagable_flavors::Error;
-use pagable_nodes::{HasCases, NodeValue, read_case, references_of_case, write_case};
+use pagable_nodes::{CaseReader, HasCases, NodeValue, read_case, references_of_case, write_case};
 use pagable_traits::{
     ArcRef, Env, PagableDeserialize, PagableDeserializer, PagableSerializer, RawRef,
 };
@@ -27,6 +27,30 @@ impl HasCases for Choice {
     ghost cases = { choice_cases };
 
     ghost case_of = { choice_case };
+}
+
+impl<E: Env> CaseReader<E> for Choice {
+    ghost beside = { only_references };
+
+    fn read_fields<D: PagableDeserializer<E>>(
+        number: u32,
+        alloc: Global,
+        deserializer: &mut D,
+    ) -> Result<Self, Error> {
+        match number {
+            0 => Ok(Choice::Nothing),
+            1 => {
+                let first = PagableDeserialize::<E>::pagable_deserialize(alloc, deserializer)?;
+                Ok(Choice::Count(first))
+            }
+            2 => {
+                let fields = PagableDeserialize::<E>::pagable_deserialize(alloc, deserializer)?;
+                let (first, second) = fields;
+                Ok(Choice::Named(first, second))
+            }
+            _ => Err(Error::UnknownTag),
+        }
+    }
 }
 
 impl<E: Env> NodeValue<E> for Choice {
@@ -52,20 +76,7 @@ impl<E: Env> NodeValue<E> for Choice {
         }
     }
 
-    #[tactic(auto, unfolding(pagable_value_spec::specs::Reading::read, pagable_value_spec::specs::Reading::read_with), using(pagable_nodes::proofs::Enums::enums))]
     fn read<D: PagableDeserializer<E>>(alloc: Global, deserializer: &mut D) -> Result<Self, Error> {
-        match read_case(deserializer)? {
-            0 => Ok(Choice::Nothing),
-            1 => {
-                let first = PagableDeserialize::<E>::pagable_deserialize(alloc, deserializer)?;
-                Ok(Choice::Count(first))
-            }
-            2 => {
-                let fields = PagableDeserialize::<E>::pagable_deserialize(alloc, deserializer)?;
-                let (first, second) = fields;
-                Ok(Choice::Named(first, second))
-            }
-            _ => Err(Error::UnknownTag),
-        }
+        read_case::<E, _, _>(alloc, deserializer)
     }
 }

@@ -1,10 +1,11 @@
 // Printed by pagable_derive: change the declaration instead.
-//! The environment of `Part`, `Choice` and `Table`.
+//! The environment of `Part`, `Choice`, `Table` and `Change`.
 
 ghost use Rattle.declared_types.specs.Nodes.{store_held};
 ghost use Rattle.pagable_nodes.specs.NodeCases.{type_is_small};
 ghost use Rattle.std.specs.{Arc.arc_value, Prelude.{Some, refl, ◌≡◌}};
 
+use crate::change::Change;
 use crate::choice::Choice;
 use crate::part::Part;
 use crate::table::Table;
@@ -15,7 +16,7 @@ use pagable_traits::{ArcRef, Env, NodeSet, OfNode, PagableDeserializer, PagableS
 use std::alloc::Global;
 use std::sync::Arc;
 
-/// The environment of `Part`, `Choice` and `Table`. Keys are computed by SHA-256.
+/// The environment of `Part`, `Choice`, `Table` and `Change`. Keys are computed by SHA-256.
 #[derive(Drop)]
 pub struct Store;
 
@@ -39,15 +40,15 @@ pub enum StoreNode {
     Part(Arc<Part>),
     Choice(Arc<Choice>),
     Table(Arc<Table>),
+    Change(Arc<Change>),
 }
 
 impl NodeSet<Store> for StoreNode {
-    ghost use Rattle.declared_types.specs.Nodes.{store_case, store_types};
+    ghost use Rattle.declared_types.specs.Nodes.{store_beside, store_case, store_types};
     ghost use Rattle.pagable_nodes.specs.{
       Cases.shape_of,
       NodeCases.{case_has_meaning, case_refers, typed_has_shape, typed_reads, typed_shape, typed_writes},
     };
-    ghost use Rattle.pagable_traits.specs.HeldValues.{only_references};
     ghost use Rattle.pagable_value_spec.specs.References.{references_in};
 
     ghost type_of = { λ n. (store_case n).number };
@@ -60,7 +61,7 @@ impl NodeSet<Store> for StoreNode {
 
     ghost refs_of = { λ n. references_in (store_case n).meaning };
 
-    ghost beside = { only_references };
+    ghost beside = { store_beside };
 
     ghost write_causes = { λ t. (typed_writes store_types t).are };
 
@@ -81,6 +82,7 @@ impl NodeSet<Store> for StoreNode {
             StoreNode::Part(_) => 0,
             StoreNode::Choice(_) => 1,
             StoreNode::Table(_) => 2,
+            StoreNode::Change(_) => 3,
         }
     }
 
@@ -89,6 +91,7 @@ impl NodeSet<Store> for StoreNode {
             StoreNode::Part(value) => NodeValue::<Store>::list_refs(value.as_ref(), alloc),
             StoreNode::Choice(value) => NodeValue::<Store>::list_refs(value.as_ref(), alloc),
             StoreNode::Table(value) => NodeValue::<Store>::list_refs(value.as_ref(), alloc),
+            StoreNode::Change(value) => NodeValue::<Store>::list_refs(value.as_ref(), alloc),
         }
     }
 
@@ -97,6 +100,7 @@ impl NodeSet<Store> for StoreNode {
             StoreNode::Part(value) => NodeValue::<Store>::write(value.as_ref(), serializer),
             StoreNode::Choice(value) => NodeValue::<Store>::write(value.as_ref(), serializer),
             StoreNode::Table(value) => NodeValue::<Store>::write(value.as_ref(), serializer),
+            StoreNode::Change(value) => NodeValue::<Store>::write(value.as_ref(), serializer),
         }
     }
 
@@ -109,6 +113,7 @@ impl NodeSet<Store> for StoreNode {
             0 => Ok(StoreNode::Part(read_shared::<Store, _, _>(alloc, deserializer)?)),
             1 => Ok(StoreNode::Choice(read_shared::<Store, _, _>(alloc, deserializer)?)),
             2 => Ok(StoreNode::Table(read_shared::<Store, _, _>(alloc, deserializer)?)),
+            3 => Ok(StoreNode::Change(read_shared::<Store, _, _>(alloc, deserializer)?)),
             _ => Err(Error::WrongKind),
         }
     }
@@ -181,4 +186,27 @@ impl OfNode<Store> for Table {
     }
 
     ghost small = { type_is_small 2 refl };
+}
+
+impl OfNode<Store> for Change {
+    ghost TYPE = { 3 };
+
+    ghost held = { store_held 3 };
+
+    const TYPE: u32 = 3;
+
+    fn into_node(value: Arc<Self>) -> StoreNode
+        ensures { store_held 3 result ≡ Some (arc_value value) }
+    {
+        StoreNode::Change(value)
+    }
+
+    fn from_node(alloc: Global, node: &StoreNode) -> Result<Option<Arc<Self>>, Error> {
+        match node {
+            StoreNode::Change(value) => Ok(Some(value.clone()?)),
+            _ => Ok(None),
+        }
+    }
+
+    ghost small = { type_is_small 3 refl };
 }

@@ -4,7 +4,9 @@ ghost use Rattle.pagable_examples.specs.Tasks.{state_case, state_cases, state_en
 ghost use Rattle.pagable_traits.specs.HeldValues.{only_references};
 
 use pagable_flavors::Error;
-use pagable_nodes::{HasCases, NodeValue, list_case, read_case, write_case, write_with_refs};
+use pagable_nodes::{
+    CaseReader, HasCases, NodeValue, list_case, read_case, write_case, write_with_refs,
+};
 use pagable_traits::{
     ArcRef, Canonical, Carried, Env, OneMeaning, PagableDeserialize, PagableDeserializer,
     PagableSerialize, PagableSerializer, RawRef, Refers, references_of,
@@ -68,15 +70,15 @@ impl<E: Env> PagableSerialize<E> for State {
     }
 }
 
-impl<'de, E: Env> PagableDeserialize<'de, E> for State {
-    ghost read_causes = { state_encoding.reads };
+impl<E: Env> CaseReader<E> for State {
+    ghost beside = { only_references };
 
-    #[tactic(auto, unfolding(pagable_value_spec::specs::Reading::read, pagable_value_spec::specs::Reading::read_with), using(pagable_nodes::proofs::Enums::enums))]
-    fn pagable_deserialize<D: PagableDeserializer<E>>(
+    fn read_fields<D: PagableDeserializer<E>>(
+        number: u32,
         alloc: Global,
         deserializer: &mut D,
     ) -> Result<Self, Error> {
-        match read_case(deserializer)? {
+        match number {
             0 => Ok(State::Open),
             1 => {
                 let note = PagableDeserialize::<E>::pagable_deserialize(alloc, deserializer)?;
@@ -88,6 +90,17 @@ impl<'de, E: Env> PagableDeserialize<'de, E> for State {
             }
             _ => Err(Error::UnknownTag),
         }
+    }
+}
+
+impl<'de, E: Env> PagableDeserialize<'de, E> for State {
+    ghost read_causes = { state_encoding.reads };
+
+    fn pagable_deserialize<D: PagableDeserializer<E>>(
+        alloc: Global,
+        deserializer: &mut D,
+    ) -> Result<Self, Error> {
+        read_case::<E, _, _>(alloc, deserializer)
     }
 }
 

@@ -1,27 +1,19 @@
 -- An enum is written as the number of its case and then the fields of the case, and is read so.
-use Rattle.pagable_codec.proofs.Writing.{memory_refuses}
+use Rattle.pagable_codec.proofs.{Reading.moves_refl, Writing.memory_refuses}
 use Rattle.pagable_codec.specs.declared.{
   deserializer.PagableDeserializer.Ghosts as Deserializers,
   env.Env.Ghosts as Environments,
   serializer.PagableSerializer.Ghosts as Serializers,
 }
-use Rattle.pagable_nodes.specs.Cases.{CaseOf, Cases, MeansCase, ReadsNumber, case, encoding_of, is_case, no_more, shape_of}
-use Rattle.pagable_nodes.specs.Cases.{writes_of}
+use Rattle.pagable_nodes.specs.{
+  CaseFields.{ReadsFields, read_known},
+  Cases.{CaseOf, Cases, MeansCase, ReadsNumber, case, encoding_of, is_case, no_more, reads_of, shape_of, writes_of},
+  NodeCases.{shape-is, typed_shape},
+}
 use Rattle.pagable_traits.proofs.{JsonSteps.{Tells, read-err, then-err, then-ok, whole-wrote, wrote-err}, Maps.viewed}
 use Rattle.pagable_traits.specs.{Clauses.{Reads, Wrote, bytes, value as form}, Meanings.Means}
-use Rattle.pagable_value_spec.specs.{
-  Cursor.Answer,
-  Form.case-form,
-  Meaning.{Meaning, none, variant},
-  Numbers.{bound, unsigned_at, unsigned_form},
-  Outcomes.{IsOutOfMemory, memory_or},
-  Reading.{Context, bytes_of, read, read_with},
-  References.references_in,
-  Shape.{Shape, cases, nothing},
-  Writing.{Nesting, NoForm, Out, added},
-  declared.{error.Error.Error, numbers.ArcRef.ArcRef},
-}
-use Rattle.std.proofs.{Common.{Err, List, Ok, Result, ap, false, inl, inr, refl, suc, true, zero, ℕ, [], ◌++◌, ◌<◌, ◌∙◌, ◌≡◌}, lemmas.List.append-nil}
+use Rattle.pagable_value_spec.specs.{Cursor.Answer, Form.case-form, Meaning.{Meaning, none, variant}, Numbers.{bound, unsigned_at, unsigned_form}, Outcomes.{IsOutOfMemory, memory_or}, Reading.{Context, Rest, bytes_of, read, read_with}, References.references_in, Shape.{Shape, cases, nothing}, Writing.{Nesting, NoForm, Out, added}, declared.{error.Error.Error, numbers.ArcRef.ArcRef}}
+use Rattle.std.proofs.{Common.{Err, List, None, Ok, Option, Result, Some, ap, false, inl, inr, refl, suc, true, zero, ℕ, [], ◌++◌, ◌<◌, ◌∙◌, ◌≡◌}, lemmas.List.append-nil}
 use Rattle.std.specs.{Int.w32, Prelude.{Bool, OnOk}, Result.IsErrAnd}
 
 no-case : (nest : Nesting) (known : ℕ → Bool) (shape : ℕ → Shape) (n : ℕ) (m : Meaning ArcRef) → NoForm nest (shape n) m
@@ -78,6 +70,22 @@ fields_listed (Err f) m n old mid new b e h = tt
 
 -- ---- reading
 
+-- a number that no case has has no shape
+pub no-shape : (all : Cases) (n : ℕ) → is_case all n ≡ false → typed_shape all n ≡ None
+no-shape no_more n is = refl
+no-shape (case a more) zero is = cc
+no-shape (case a more) (suc n) is = no-shape more n is
+
+-- the causes of a case are among those of the enum
+pub read-among : (all : Cases) (n : ℕ) (e : Error) → (encoding_of all n).reads.are e → (reads_of all).are e
+read-among no_more n e h = h
+read-among (case a more) zero e h = inl h
+read-among (case a more) (suc n) e h = inr (read-among more n e h)
+
+-- what reading gives, with a value's meaning
+abbrev pub Given : Type 0
+Given = Result (Meaning ArcRef × Rest Answer) Error
+
 module _ {D E R N H K V : Type 0} {env : Environments E N H K V} {d : Deserializers D E R N H K V} where
   module _ {a b : D} {n : ℕ} (number : ReadsNumber env d a b (Ok n)) where
     number-is : bytes_of (unsigned_at w32) (λ k. k) (d.rest a) ≡ Ok (n, d.rest b)
@@ -86,49 +94,64 @@ module _ {D E R N H K V : Type 0} {env : Environments E N H K V} {d : Deserializ
     told : Tells d (Unit {0}) a b
     told = record { gives = tt; moves = number.moves; same_env = number.same_env; same_levels = number.same_levels }
 
-    -- the rest of the enum is its fields
-    goes-on : (known : ℕ → Bool) (shape : ℕ → Shape) (part : Shape) (context : Context Answer ArcRef) → known n ≡ true → shape n ≡ part
-        → read context (cases w32 known shape) (d.rest a) ≡ viewed (variant n) (read context part (d.rest b))
+    module _ (context : Context Answer ArcRef) where
+      known-goes-on : (known : ℕ → Bool) (shape : ℕ → Shape) (part : Shape) → known n ≡ true → shape n ≡ part
+          → read context (cases w32 known shape) (d.rest a) ≡ viewed (variant n) (read context part (d.rest b))
+      unfolding read read_with
+      known-goes-on known shape part is same = rw (number-is, is, same) refl
+
+      unknown : (known : ℕ → Bool) (shape : ℕ → Shape) → known n ≡ false
+          → read context (cases w32 known shape) (d.rest a) ≡ (let p : Given = Err Error.UnknownTag in p)
+      unfolding read read_with
+      unknown known shape is = rw (number-is, is) refl
+
+      -- the rest of the enum is its fields
+      goes-on : (all : Cases)
+          → read context (cases w32 (is_case all) (shape_of all)) (d.rest a) ≡ viewed (variant n) (read_known context (typed_shape all n) (d.rest b))
+      goes-on all = by (is_case all n) refl
+        where
+          by : (known : Bool) → is_case all n ≡ known
+              → read context (cases w32 (is_case all) (shape_of all)) (d.rest a) ≡ viewed (variant n) (read_known context (typed_shape all n) (d.rest b))
+          by true is = rw (shape-is all n is) (known-goes-on (is_case all) (shape_of all) (shape_of all n) is refl)
+          by false is = rw (no-shape all n is) (unknown (is_case all) (shape_of all) is)
+
+  module _ {Z : Type 0} (all : Cases) (view : Z → CaseOf all) where
+    -- the number, and then the fields
+    pub case_was_read : {a b c : D} {z : Z} {n : ℕ} → ReadsNumber env d a b (Ok n)
+        → ReadsFields env d view n b c (let r : Result Z Error = Ok z in r)
+        → Reads env d (reads_of all).are (λ x. MeansCase (view x)) (λ c. read c (cases w32 (is_case all) (shape_of all))) a c (let r : Result Z Error = Ok z in r)
+    case_was_read {n = n} number q = then-ok (variant n) (told number) q (goes-on number _ all)
+        (λ m h. record { part = m; is_part = h.1; is = rw h.0 refl })
+
+    -- the fields were refused
+    pub fields_were_refused : {a b c : D} {e : Error} {r : Result Z Error} {n : ℕ} → IsErrAnd r (λ f. f ≡ e) → ReadsNumber env d a b (Ok n)
+        → ReadsFields env d view n b c (let p : Result Z Error = Err e in p)
+        → Reads env d (reads_of all).are (λ x. MeansCase (view x)) (λ c. read c (cases w32 (is_case all) (shape_of all))) a c r
+    fields_were_refused {e = e} {n = n} same_error number q =
+        then-err (variant n) same_error (told number) q (goes-on number _ all) (read-among all n e)
+
+    -- the number was refused
+    pub number_was_refused : {a b : D} {e : Error} {r : Result Z Error} → IsErrAnd r (λ f. f ≡ e)
+        → ReadsNumber env d a b (let p : Result ℕ Error = Err e in p) → Reads env d (reads_of all).are (λ x. MeansCase (view x)) (λ c. read c (cases w32 (is_case all) (shape_of all))) a b r
     unfolding read read_with
-    goes-on known shape part context is same = rw (number-is, is, same) refl
-
-  module _ {Z : Type 0} {causes : Error → Type 0} {L : Means Z} (known : ℕ → Bool) (shape : ℕ → Shape) where
-    pub case_read : {X : Type 0} {own : Error → Type 0} {M : Means X} {part : Shape} {a b c : D} {x : X} {z : Z} {n : ℕ}
-        → ReadsNumber env d a b (Ok n) → Reads env d own M (λ y. read y part) b c (Ok x) → known n ≡ true → shape n ≡ part
-        → ((m : Meaning ArcRef) → M x m → L z (variant n m))
-        → Reads env d causes L (λ y. read y (cases w32 known shape)) a c (let r : Result Z Error = Ok z in r)
-    case_read {n = n} number q is same means = then-ok (variant n) (told number) q (goes-on number known shape _ _ is same) means
-
-    pub bare_read : {a b : D} {z : Z} {n : ℕ} → ReadsNumber env d a b (Ok n) → known n ≡ true → shape n ≡ nothing → L z (variant n none)
-        → Reads env d causes L (λ y. read y (cases w32 known shape)) a b (let r : Result Z Error = Ok z in r)
-    unfolding read read_with
-    bare_read {n = n} number is same means = record {
-      gives = record { m = variant n none; is = means; gave = goes-on number known shape nothing _ is same };
-      moves = number.moves;
-      same_env = number.same_env;
-      same_levels = number.same_levels;
-    }
-
-    pub fields_unread : {X : Type 0} {own : Error → Type 0} {M : Means X} {part : Shape} {a b c : D} {e : Error} {r : Result Z Error} {n : ℕ}
-        → IsErrAnd r (λ f. f ≡ e) → ReadsNumber env d a b (Ok n) → Reads env d own M (λ y. read y part) b c (let p : Result X Error = Err e in p)
-        → known n ≡ true → shape n ≡ part → (own e → causes e) → Reads env d causes L (λ y. read y (cases w32 known shape)) a c r
-    fields_unread {n = n} same_error number q is same may = then-err (variant n) same_error (told number) q (goes-on number known shape _ _ is same) may
-
-    pub number_unread : {a b : D} {e : Error} {r : Result Z Error} → IsErrAnd r (λ f. f ≡ e)
-        → ReadsNumber env d a b (let p : Result ℕ Error = Err e in p) → Reads env d causes L (λ y. read y (cases w32 known shape)) a b r
-    unfolding read read_with
-    number_unread same_error number = read-err same_error
+    number_was_refused same_error number = read-err same_error
         (record { gives = number.gives; moves = number.moves; same_env = number.same_env; same_levels = number.same_levels })
         (λ no. absurd no) (λ h. rw h refl)
 
-    pub case_unknown : {a b : D} {n : ℕ} → ReadsNumber env d a b (Ok n) → known n ≡ false
-        → Reads env d causes L (λ y. read y (cases w32 known shape)) a b (let r : Result Z Error = Err Error.UnknownTag in r)
-    unfolding read read_with
-    case_unknown number is = record {
-      gives = inl (rw (number-is number, is) refl);
-      moves = number.moves;
-      same_env = number.same_env;
-      same_levels = number.same_levels;
-    }
+  -- ---- what reading the fields of a case owes: where there are none, and where they were refused
 
-pub ruleset enums = (case_read, bare_read, fields_unread, number_unread, case_unknown)
+  pub no_fields : {Z : Type 0} {causes : Error → Type 0} {L : Means Z} {shape : Option Shape} {a : D} {z : Z} → shape ≡ Some nothing → L z none
+      → Reads env d causes L (λ c. read_known c shape) a a (let r : Result Z Error = Ok z in r)
+  unfolding read read_with
+  no_fields is means = record {
+    gives = record { m = none; is = means; gave = rw is refl };
+    moves = moves_refl _;
+    same_env = refl;
+    same_levels = refl;
+  }
+
+  pub fields_refused : {X Z : Type 0} {own causes : Error → Type 0} {M : Means X} {L : Means Z} {part : Shape} {shape : Option Shape} {a b : D}
+      {e : Error} {r : Result Z Error} → IsErrAnd r (λ f. f ≡ e) → Reads env d own M (λ c. read c part) a b (let p : Result X Error = Err e in p)
+      → shape ≡ Some part → own ≡ causes → Reads env d causes L (λ c. read_known c shape) a b r
+  fields_refused same_error q is causes = rw (is, ← causes) (read-err same_error
+      (record { gives = q.gives; moves = q.moves; same_env = q.same_env; same_levels = q.same_levels }) (λ h. h) (λ h. h))

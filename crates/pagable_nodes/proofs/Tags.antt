@@ -1,40 +1,19 @@
 -- An enum with tags is written as the tag of its case and then the fields of the case, and is read so.
-use Rattle.pagable_codec.proofs.Writing.{memory_refuses}
 use Rattle.pagable_codec.specs.declared.{
   deserializer.PagableDeserializer.Ghosts as Deserializers,
   env.Env.Ghosts as Environments,
   serializer.PagableSerializer.Ghosts as Serializers,
 }
-use Rattle.pagable_nodes.proofs.Enums.{written-among}
-use Rattle.pagable_nodes.specs.{
-  Cases.{CaseOf, Cases, case, encoding_of, is_case, no_more, shape_of, writes_of},
-  Tags.{IsTagAt, ReadsTag, are_tags, body_of_tag, has_tag, known_or_unwritten, lacks_tag, tag_at, tag_place, tagged_shape},
-}
+use Rattle.pagable_nodes.proofs.Enums.{Given, no-shape, read-among, written-among}
+use Rattle.pagable_nodes.specs.{CaseFields.{ReadsFields, read_known}, Cases.{CaseOf, Cases, case, encoding_of, is_case, no_more, reads_of, shape_of, writes_of}, NodeCases.{shape-is, typed_shape}, Tags.{ReadsTag, are_tags, body_of_tag, has_tag, known_or_unwritten, lacks_tag, tag_at, tag_place, tagged_shape}}
 use Rattle.pagable_traits.proofs.{
   JsonSteps.{Tells, read-err, then-err, then-ok, wrote-err, wrote-then},
   Maps.viewed,
   Registered.{refused_body, writes_tagged},
 }
-use Rattle.pagable_traits.specs.{Clauses.{Reads, Wrote, value as form}, Meanings.Means}
-use Rattle.pagable_value_spec.specs.{
-  BasicValues.{longest, text_at, text_form},
-  CarriedTypes.of_tagged,
-  Cursor.{Answer, Is},
-  Form.{tagged-form, text-form},
-  Meaning.{Meaning, none, text as text_meaning},
-  Outcomes.{IsOutOfMemory, long_or, memory_or},
-  Reading.{Context, Rest, bytes_of, read, read_with},
-  References.references_in,
-  Shape.{Shape, nothing, text as text_shape},
-  Tagged.MeansTagged,
-  Writing.{FormAt, Nesting, NoForm, Out, Refused, WritesSome, added},
-  declared.{error.Error.Error, numbers.ArcRef.ArcRef},
-}
-use Rattle.std.proofs.{
-  Common.{Err, List, Ok, Result, ap, arith, false, inl, inr, length, refl, suc, sym, true, zero, ℕ, [], ◌++◌, ◌∙◌, ◌∷◌, ◌≡◌, ◌≤◌},
-  lemmas.List.append-nil,
-  lemmas.Slice.Eq.bytes_eq-Decides,
-}
+use Rattle.pagable_traits.specs.{Clauses.{Reads, Wrote, value as form}}
+use Rattle.pagable_value_spec.specs.{BasicValues.{longest, text_at, text_form}, CarriedTypes.of_tagged, Cursor.{Answer, Is}, Form.{tagged-form, text-form}, Meaning.{Meaning, text as text_meaning}, Outcomes.{IsOutOfMemory, long_or, memory_or}, Reading.{Context, Rest, bytes_of, read, read_with}, References.references_in, Shape.{Shape, text as text_shape}, Tagged.MeansTagged, Writing.{FormAt, Nesting, NoForm, Out, Refused, WritesSome, added}, declared.{error.Error.Error, numbers.ArcRef.ArcRef}}
+use Rattle.std.proofs.{Common.{Err, List, Ok, Result, ap, false, inl, inr, length, refl, suc, sym, true, zero, ℕ, [], ◌++◌, ◌∙◌, ◌∷◌, ◌≡◌, ◌≤◌}, lemmas.List.append-nil, lemmas.Slice.Eq.bytes_eq-Decides}
 use Rattle.std.specs.{Prelude.{Bool, IfOk, OnOk, cond}, Result.IsErrAnd, Str.{IsUtf8, bytes_eq}}
 
 -- ---- tags and their places
@@ -181,10 +160,6 @@ both-are : {X Y : Type 0} (x u : X) (y v : Y) → (let p : Result (X × Y) Error
 both-are {X} {Y} x u y v e =
     let same : (let p : X × Y = (x, y) in p) ≡ (u, v) = cc in (ap (λ (p : X × Y). p.0) same, ap (λ (p : X × Y). p.1) same)
 
--- what reading gives, with a value's meaning
-abbrev Given : Type 0
-Given = Result (Meaning ArcRef × Rest Answer) Error
-
 -- a text that was read, as bytes give it
 text-front : (tag : List ℕ) (rest after : Rest Answer) (context : Context Answer ArcRef) (m : Meaning ArcRef)
     → read context text_shape rest ≡ Ok (m, after) → m ≡ text_meaning tag → bytes_of text_at (λ t. t) rest ≡ Ok (tag, after)
@@ -220,60 +195,50 @@ module _ {D E R N H K V : Type 0} {env : Environments E N H K V} {d : Deserializ
     told : Tells d (Unit {0}) a b
     told = record { gives = tt; moves = first.moves; same_env = first.same_env; same_levels = first.same_levels }
 
-    module _ (all : Cases) where
-      -- the rest of the enum is the fields of the case
-      goes-on : (part : Shape) (context : Context Answer ArcRef) → are_tags all tags ≡ true → is_case all n ≡ true → shape_of all n ≡ part
+    module _ (all : Cases) (context : Context Answer ArcRef) where
+      known-goes-on : (part : Shape) → are_tags all tags ≡ true → is_case all n ≡ true → shape_of all n ≡ part
           → read context (tagged_shape all tags) (d.rest a) ≡ viewed (of_tagged (tag_at tags n)) (read context part (d.rest b))
       unfolding read read_with tagged_shape
-      goes-on part context fit is same =
+      known-goes-on part fit is same =
           let its = tag_of_place all tags n tag fit is first.gives.is.place in
           rw (front, ← first.gives.is.place, is, same, its) refl
 
-      unknown : (context : Context Answer ArcRef) → is_case all n ≡ false
-          → read context (tagged_shape all tags) (d.rest a) ≡ (let p : Given = Err Error.UnknownTag in p)
+      unknown : is_case all n ≡ false → read context (tagged_shape all tags) (d.rest a) ≡ (let p : Given = Err Error.UnknownTag in p)
       unfolding read read_with tagged_shape
-      unknown context is = rw (front, ← first.gives.is.place, is) refl
+      unknown is = rw (front, ← first.gives.is.place, is) refl
 
-  module _ {Z : Type 0} {causes : Error → Type 0} {L : Means Z} (all : Cases) (tags : List (List ℕ)) where
-    pub tagged_read : {X : Type 0} {own : Error → Type 0} {M : Means X} {part : Shape} {a b c : D} {x : X} {z : Z} {n : ℕ}
-        → ReadsTag env d tags a b (Ok n) → Reads env d own M (λ y. read y part) b c (Ok x) → are_tags all tags ≡ true → is_case all n ≡ true
-        → shape_of all n ≡ part → ((m : Meaning ArcRef) → M x m → L z (of_tagged (tag_at tags n) m))
-        → Reads env d causes L (λ y. read y (tagged_shape all tags)) a c (let r : Result Z Error = Ok z in r)
-    tagged_read {n = n} first q fit is same means =
-        then-ok (of_tagged (tag_at tags n)) (told first) q (goes-on first all _ _ fit is same) means
+      -- the rest of the enum is the fields of the case
+      goes-on : are_tags all tags ≡ true → read context (tagged_shape all tags) (d.rest a)
+          ≡ viewed (of_tagged (tag_at tags n)) (read_known context (typed_shape all n) (d.rest b))
+      goes-on fit = by (is_case all n) refl
+        where
+          by : (known : Bool) → is_case all n ≡ known → read context (tagged_shape all tags) (d.rest a)
+              ≡ viewed (of_tagged (tag_at tags n)) (read_known context (typed_shape all n) (d.rest b))
+          by true is = rw (shape-is all n is) (known-goes-on (shape_of all n) fit is refl)
+          by false is = rw (no-shape all n is) (unknown is)
 
-    pub tagged_bare_read : {a b : D} {z : Z} {n : ℕ} → ReadsTag env d tags a b (Ok n) → are_tags all tags ≡ true → is_case all n ≡ true
-        → shape_of all n ≡ nothing → L z (of_tagged (tag_at tags n) none)
-        → Reads env d causes L (λ y. read y (tagged_shape all tags)) a b (let r : Result Z Error = Ok z in r)
-    unfolding read read_with
-    tagged_bare_read {n = n} first fit is same means = record {
-      gives = record { m = of_tagged (tag_at tags n) none; is = means; gave = goes-on first all nothing _ fit is same };
-      moves = first.moves;
-      same_env = first.same_env;
-      same_levels = first.same_levels;
-    }
+  module _ {Z : Type 0} (all : Cases) (view : Z → CaseOf all) (tags : List (List ℕ)) where
+    -- the tag, and then the fields
+    pub tagged_case_was_read : {a b c : D} {z : Z} {n : ℕ} → are_tags all tags ≡ true → ReadsTag env d tags a b (Ok n)
+        → ReadsFields env d view n b c (let r : Result Z Error = Ok z in r)
+        → Reads env d (memory_or (reads_of all).are) (λ x. MeansTagged (tag_at tags (view x).number) (view x).means)
+        (λ y. read y (tagged_shape all tags)) a c (let r : Result Z Error = Ok z in r)
+    tagged_case_was_read {n = n} fit first q = then-ok (of_tagged (tag_at tags n)) (told first) q (goes-on first all _ fit)
+        (λ m h. record { body = m; is_body = h.1; is = rw h.0 refl })
 
-    pub tagged_unread : {X : Type 0} {own : Error → Type 0} {M : Means X} {part : Shape} {a b c : D} {e : Error} {r : Result Z Error} {n : ℕ}
-        → IsErrAnd r (λ f. f ≡ e) → ReadsTag env d tags a b (Ok n) → Reads env d own M (λ y. read y part) b c (let p : Result X Error = Err e in p)
-        → are_tags all tags ≡ true → is_case all n ≡ true → shape_of all n ≡ part → (own e → causes e)
-        → Reads env d causes L (λ y. read y (tagged_shape all tags)) a c r
-    tagged_unread {n = n} same_error first q fit is same may =
-        then-err (of_tagged (tag_at tags n)) same_error (told first) q (goes-on first all _ _ fit is same) may
+    -- the fields were refused
+    pub tagged_fields_were_refused : {a b c : D} {e : Error} {r : Result Z Error} {n : ℕ} → are_tags all tags ≡ true → IsErrAnd r (λ f. f ≡ e)
+        → ReadsTag env d tags a b (Ok n) → ReadsFields env d view n b c (let p : Result Z Error = Err e in p)
+        → Reads env d (memory_or (reads_of all).are) (λ x. MeansTagged (tag_at tags (view x).number) (view x).means)
+        (λ y. read y (tagged_shape all tags)) a c r
+    tagged_fields_were_refused {e = e} {n = n} fit same_error first q =
+        then-err (of_tagged (tag_at tags n)) same_error (told first) q (goes-on first all _ fit) (λ h. inr (read-among all n e h))
 
-    pub tag_unread : {a b : D} {e : Error} {r : Result Z Error} → IsErrAnd r (λ f. f ≡ e)
-        → ReadsTag env d tags a b (let p : Result ℕ Error = Err e in p) → (IsOutOfMemory e → causes e)
-        → Reads env d causes L (λ y. read y (tagged_shape all tags)) a b r
-    tag_unread same_error first may = read-err same_error
+    -- the tag was refused
+    pub tag_was_refused : {a b : D} {e : Error} {r : Result Z Error} → IsErrAnd r (λ f. f ≡ e)
+        → ReadsTag env d tags a b (let p : Result ℕ Error = Err e in p)
+        → Reads env d (memory_or (reads_of all).are) (λ x. MeansTagged (tag_at tags (view x).number) (view x).means)
+        (λ y. read y (tagged_shape all tags)) a b r
+    tag_was_refused same_error first = read-err same_error
         (record { gives = first.gives; moves = first.moves; same_env = first.same_env; same_levels = first.same_levels })
-        may (λ h. text-refused all tags _ _ _ h)
-
-    pub tag_unknown : {a b : D} {n : ℕ} → ReadsTag env d tags a b (Ok n) → is_case all n ≡ false
-        → Reads env d causes L (λ y. read y (tagged_shape all tags)) a b (let r : Result Z Error = Err Error.UnknownTag in r)
-    tag_unknown first is = record {
-      gives = inl (unknown first all _ is);
-      moves = first.moves;
-      same_env = first.same_env;
-      same_levels = first.same_levels;
-    }
-
-pub ruleset tags = (tagged_read, tagged_bare_read, tagged_unread, tag_unread, tag_unknown)
+        (λ h. inl h) (λ h. text-refused all tags _ _ _ h)

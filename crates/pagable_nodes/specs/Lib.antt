@@ -1,4 +1,5 @@
 pub mod Cases
+pub mod CaseFields
 pub mod Collections
 pub mod Encoding
 pub mod NodeCases

@@ -10,7 +10,7 @@ use Rattle.pagable_value_spec.specs.{
   declared.numbers.ArcRef.ArcRef,
 }
 use Rattle.std.proofs.Common.{ltb, ltb-true}
-use Rattle.std.specs.Prelude.{None, Option, Some, false, refl, suc, true, zero, ℕ, ◌<◌, ◌^◌, ◌≡◌}
+use Rattle.std.specs.Prelude.{None, Option, Some, refl, suc, true, zero, ℕ, ◌<◌, ◌^◌, ◌≡◌}
 
 -- the shape of the values of a type, or none if no type has the number
 abbrev pub typed_shape : Cases → ℕ → Option Shape
@@ -38,7 +38,7 @@ fields_at (case a more) zero (suc number) x = None
 fields_at (case a more) (suc wanted) zero x = None
 fields_at (case a more) (suc wanted) (suc number) x = fields_at more wanted number x
 
-shape-is : (all : Cases) (n : ℕ) → is_case all n ≡ true → typed_shape all n ≡ Some (shape_of all n)
+pub shape-is : (all : Cases) (n : ℕ) → is_case all n ≡ true → typed_shape all n ≡ Some (shape_of all n)
 shape-is no_more n is = cc
 shape-is (case a more) zero is = refl
 shape-is (case a more) (suc n) is = shape-is more n is

@@ -1,16 +1,20 @@
 //! The parts of an enum's impls. An enum is encoded as the number of its case, and then the fields
 //! of the case: the fields of a case with several are a tuple, and those of one without are `()`.
 
-ghost use Rattle.pagable_nodes.specs.Cases.{CaseOf, Cases, MeansCase, ReadsNumber, encoding_of, is_case, shape_of};
-ghost use Rattle.pagable_nodes.specs.Cases.{writes_of};
-ghost use Rattle.pagable_traits.specs.Clauses.{Wrote, bytes, value as form};
+ghost use Rattle.pagable_nodes.specs.{
+  CaseFields.ReadsFields,
+  Cases.{CaseOf, Cases, MeansCase, ReadsNumber, encoding_of, is_case, reads_of, shape_of, writes_of},
+};
+ghost use Rattle.pagable_traits.specs.Clauses.{Reads, Wrote, bytes, value as form};
 ghost use Rattle.pagable_value_spec.specs.{
+  Cursor.HoldsLentValues,
   Meaning.variant,
   Numbers.unsigned_form,
   Outcomes.{IsOutOfMemory, memory_or},
+  Reading.read as read_shape,
   References.references_in,
   Shape.cases,
-  declared.error.Error.Error as Refusal,
+  declared.{error.Error.Error as Refusal, numbers.ArcRef.ArcRef as Reference},
 };
 ghost use Rattle.std.specs.{Int.w32, Prelude.{IfErr, IfOk, OnOk, ◌++◌, ◌≡◌}};
 
@@ -29,6 +33,29 @@ pub trait HasCases: Sized {
 
     // The case of a value: its number and its fields.
     ghost case_of: { Self → CaseOf cases };
+}
+
+/// An enum whose values are read by the fields of their case: `read_case` reads them behind the
+/// case's number, `read_tagged_case` behind its tag.
+pub trait CaseReader<E: Env>: HasCases {
+    // Says that what a value holds beside this reference, wherever it holds the reference, is the
+    // value of this node, as `beside` of `NodeValue` and `Carried` does.
+    ghost beside: { Self → Reference → E.Node → Type 0 };
+
+    /// Reads the fields of the case with this number.
+    ///
+    /// # Errors
+    ///
+    /// - `UnknownTag` if no case has the number: nothing is read.
+    /// - as the fields' `pagable_deserialize`.
+    fn read_fields<D: PagableDeserializer<E>>(
+        number: u32,
+        alloc: Global,
+        deserializer: &mut D,
+    ) -> Result<Self, Error>
+        ensures reads { ReadsFields E.Env D.PagableDeserializer Self.HasCases.case_of number deserializer.old
+            deserializer.new result }
+        ensures holds { IfOk result (HoldsLentValues (D.input_state deserializer.old) beside) };
 }
 
 /// Appends the references in the fields of a value's case, in the order in which they are written.
@@ -109,14 +136,31 @@ pub fn write_case<E: Env, V: HasCases, T: Refers<E> + PagableSerialize<E>, S: Pa
     write_with_refs(fields, serializer)
 }
 
-/// Reads the number of a case. The caller refuses a number that no case has with `UnknownTag`, and
-/// reads the fields of the case.
+// Reads the number of a case. Fails as the reader's `read_u32`.
+fn read_number<E: Env, D: PagableDeserializer<E>>(deserializer: &mut D) -> Result<u32, Error>
+    ensures { ReadsNumber E.Env D.PagableDeserializer deserializer.old deserializer.new result }
+{
+    deserializer.serde().read_u32()
+}
+
+/// Reads an enum: the number of a case, and then the fields of the case.
 ///
 /// # Errors
 ///
 /// - `UnexpectedEnd`, `BadVarint` as the reader's `read_u32`.
-pub fn read_case<E: Env, D: PagableDeserializer<E>>(deserializer: &mut D) -> Result<u32, Error>
-    ensures { ReadsNumber E.Env D.PagableDeserializer deserializer.old deserializer.new result }
+/// - `UnknownTag` if no case has the number.
+/// - as the fields' `pagable_deserialize`.
+pub fn read_case<E: Env, V: CaseReader<E>, D: PagableDeserializer<E>>(
+    alloc: Global,
+    deserializer: &mut D,
+) -> Result<V, Error>
+    ensures reads { Reads E.Env D.PagableDeserializer (reads_of V.HasCases.cases).are
+        (λ x. MeansCase (V.HasCases.case_of x))
+        (λ c. read_shape c (cases w32 (is_case V.HasCases.cases) (shape_of V.HasCases.cases)))
+        deserializer.old deserializer.new result }
+    ensures holds { IfOk result (HoldsLentValues (D.input_state deserializer.old) V.beside) }
 {
-    deserializer.serde().read_u32()
+    let number = read_number(deserializer)?;
+    let value = V::read_fields(number, alloc, deserializer)?;
+    Ok(value)
 }

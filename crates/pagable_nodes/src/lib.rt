@@ -10,7 +10,7 @@ pub mod one_node;
 pub mod records;
 pub mod tagged_cases;
 
-pub use cases::{HasCases, list_case, read_case, references_of_case, write_case};
+pub use cases::{CaseReader, HasCases, list_case, read_case, references_of_case, write_case};
 pub use either_node::EitherNode;
 pub use node_value::{NodeValue, read_shared};
 pub use one_node::{OneNode, write_with_refs};

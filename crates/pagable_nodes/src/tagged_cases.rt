@@ -2,20 +2,25 @@
 //! then the fields of the case, as an enum without tags encodes them.
 
 ghost use Rattle.pagable_nodes.specs.{
-  Cases.{encoding_of, shape_of, writes_of},
+  Cases.{encoding_of, reads_of, shape_of, writes_of},
   Tags.{ReadsTag, are_tags, tag_at, tag_place, tagged_shape},
 };
-ghost use Rattle.pagable_traits.specs.Clauses.{Wrote, value as form};
+ghost use Rattle.pagable_traits.specs.{
+  Clauses.{Reads, Wrote, value as form},
+  OwnCauses.reads_memory_or,
+};
 ghost use Rattle.pagable_value_spec.specs.{
   CarriedTypes.of_tagged,
+  Cursor.HoldsLentValues,
   Outcomes.{IsOutOfMemory, long_or, memory_or},
+  Reading.read as read_shape,
   References.references_in,
   Tagged.MeansTagged,
   declared.error.Error.Error as Refusal,
 };
 ghost use Rattle.std.specs.Prelude.{IfErr, IfOk, List, OnOk, true, ℕ, ◌++◌, ◌≡◌};
 
-use crate::cases::HasCases;
+use crate::cases::{CaseReader, HasCases};
 use crate::one_node::write_with_refs;
 use pagable_flavors::Error;
 use pagable_traits::{
@@ -89,14 +94,9 @@ pub fn write_tagged_case<
     write_with_refs(fields, serializer)
 }
 
-/// Reads the tag of a case, and returns the case's number. The caller refuses a number that no case
-/// has with `UnknownTag`, and reads the fields of the case.
-///
-/// # Errors
-///
-/// - the faults of a text.
-/// - `OutOfMemory`.
-pub fn read_tagged_case<E: Env, V: HasTags, D: PagableDeserializer<E>>(
+// Reads the tag of a case, and returns the case's number, or how many cases there are if none has
+// the tag. Fails by the faults of a text, and with `OutOfMemory`.
+fn read_tag<E: Env, V: HasTags, D: PagableDeserializer<E>>(
     alloc: Global,
     deserializer: &mut D,
 ) -> Result<u32, Error>
@@ -104,4 +104,26 @@ pub fn read_tagged_case<E: Env, V: HasTags, D: PagableDeserializer<E>>(
 {
     let tag = <String as PagableDeserialize<E>>::pagable_deserialize(alloc, deserializer)?;
     Ok(V::case_of_tag(tag.as_str()))
+}
+
+/// Reads an enum with tags: the tag of a case, and then the fields of the case.
+///
+/// # Errors
+///
+/// - the faults of a text.
+/// - `UnknownTag` if no case has the tag.
+/// - as the fields' `pagable_deserialize`.
+/// - `OutOfMemory`.
+pub fn read_tagged_case<E: Env, V: HasTags + CaseReader<E>, D: PagableDeserializer<E>>(
+    alloc: Global,
+    deserializer: &mut D,
+) -> Result<V, Error>
+    ensures reads { Reads E.Env D.PagableDeserializer (reads_memory_or (reads_of V.HasCases.cases)).are
+        (λ x. MeansTagged (tag_at V.tags (V.HasCases.case_of x).number) (V.HasCases.case_of x).means)
+        (λ c. read_shape c (tagged_shape V.HasCases.cases V.tags)) deserializer.old deserializer.new result }
+    ensures holds { IfOk result (HoldsLentValues (D.input_state deserializer.old) V.beside) }
+{
+    let number = read_tag::<E, V, D>(alloc, deserializer)?;
+    let value = V::read_fields(number, alloc, deserializer)?;
+    Ok(value)
 }
