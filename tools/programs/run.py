@@ -229,9 +229,9 @@ def remote(program, work):
     return runs
 
 
-def stock(program, work):
+def graph(program, work):
     """Wrong calls, and parts that are added run by run, with the list that each run in between prints."""
-    usage = "stock FILE add LABEL NUMBER | stock FILE list"
+    usage = "graph FILE add LABEL NUMBER | graph FILE list"
     calls = [[], ["a"], ["a", "look"], ["a", "list", "b"], ["a", "add", "b"], ["a", "add", "b", "c"]]
     expect_usage(program, usage, *calls, ["a", "add", "b", "18446744073709551616"])
     store, said = work / "parts", ""
@@ -244,7 +244,7 @@ def stock(program, work):
     return 24
 
 
-PROGRAMS = ["build_cache", "heap_snapshot", "spreadsheet", "remote", "stock"]
+PROGRAMS = ["build_cache", "heap_snapshot", "spreadsheet", "remote", "graph"]
 
 
 def main():

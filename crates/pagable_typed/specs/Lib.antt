@@ -1,2 +1,3 @@
 pub mod GivenBack
+pub mod Scopes
 pub mod Typed
