@@ -5,6 +5,7 @@ pub mod FlushWrites
 pub mod Flushing
 pub mod Fronts
 pub mod Heads
+pub mod Histories
 pub mod Indexes
 pub mod KeyBytes
 pub mod Listings

@@ -139,7 +139,7 @@ stands_start file made long index empty = record {
 }
 
 -- the rows of an open batch, alone and in the file
-rows_alone : (b : List ℕ) → is_open b ≡ true → rows_of (take (size_of b) b) ≡ rows_of b
+pub rows_alone : (b : List ℕ) → is_open b ≡ true → rows_of (take (size_of b) b) ≡ rows_of b
 rows_alone b opens = sym (rows_of-front (take (size_of b) b) (drop (size_of b) b) (batch_there b opens)) ∙ ap rows_of (front_again b)
 
 bodies_alone : (b : List ℕ) → is_open b ≡ true → number (take (size_of b) b) 1 ≡ number b 1

@@ -1,5 +1,5 @@
 -- A log between its flushes, and what a flush does to it.
-use Rattle.std.specs.Prelude.{◌≡◌, ℕ, ◌+◌, ◌<◌, ◌≤◌, ◌^◌, false, Bool, IsTrue, ⊤, List, [], ◌∷◌, ◌++◌, length}
+use Rattle.std.specs.Prelude.{◌≡◌, ℕ, ◌+◌, ◌<◌, ◌≤◌, ◌^◌, false, IsTrue, ⊤, List, [], ◌∷◌, ◌++◌, length}
 use Rattle.sqlite_disk.specs.declared.Disk.{Ghosts}
 use Rattle.sqlite_disk.specs.Digest.{digest}
 use Rattle.sqlite_disk.specs.Disk.{MoreFaults}

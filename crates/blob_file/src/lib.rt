@@ -5,6 +5,7 @@ pub mod file;
 pub mod file_error;
 pub mod front;
 pub mod head;
+pub mod history;
 pub mod holding;
 pub mod index;
 pub mod laws;
@@ -20,6 +21,7 @@ pub mod staging;
 
 pub use file::{BlobFile, FoundBlob};
 pub use file_error::FileError;
+pub use history::NameRow;
 pub use listing::{Counts, ListedBlob};
 pub use log::Log;
 

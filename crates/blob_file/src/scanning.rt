@@ -38,7 +38,11 @@ pub fn read_part<D: Disk>(
 }
 
 /// Reads the rows of the batch at `at`, whose head this is, and tests their sum.
-fn read_rows<D: Disk>(
+///
+/// # Errors
+///
+/// `OutOfMemory`, `Damaged` if they have another sum, or `Failed` where the disk failed.
+pub fn read_rows<D: Disk>(
     alloc: Global,
     disk: &mut D,
     at: usize,

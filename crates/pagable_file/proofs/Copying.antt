@@ -1,7 +1,7 @@
 -- Copying what roots reach.
 use Rattle.pagable_core.specs.Roots.{Sets}
 use Rattle.pagable_file.proofs.Each.{each_so}
-use Rattle.pagable_file.specs.Copies.{AreCopied, CountsCopied, HasCopied, HasWantedRoot, IsCopied, IsCopiedRoot, IsInBoth, IsPath, KeySet, Reaches, StaysOrCopies, StaysOrSets, end_of, is_among}
+use Rattle.pagable_file.specs.Copies.{AreCopied, CountsCopied, HasCopied, HasWantedRoot, IsCopied, IsCopiedKey, IsCopiedRoot, IsInBoth, IsPath, KeySet, Reaches, StaysOrCopies, StaysOrSets, end_of, is_among}
 use Rattle.pagable_value_spec.specs.{Blob.Blob, Stored.{Adds, Keeps}, declared.error.Error.Error}
 use Rattle.std.proofs.{
   Common.{Bool, Err, IsSome, IsTrue, List, None, Ok, Option, Result, Some, String, arith, false, get_or, inl, inr, length, map, refl, string_bytes, subst, sym},
@@ -69,6 +69,10 @@ pub in_both : (from to : ℕ → Option Blob) (copied : KeySet) → AreCopied fr
 in_both from to copied all root key has r =
     let it = all key (rw r.2 at (reached from to copied all root r.0 r.1 has)) in
     (it.blob, it.there, it.stored)
+
+pub are_copied_keys : (from to : ℕ → Option Blob) (copied : KeySet) (keys : List ℕ) → AreCopied from to copied → Each (HasCopied copied) keys
+    → Each (IsCopiedKey from to) keys
+are_copied_keys from to copied keys all = each_so (HasCopied copied) (IsCopiedKey from to) keys (λ root has key r. in_both from to copied all root key has r)
 
 pub is_copied_root : (from to : ℕ → Option Blob) (copied : KeySet) (wanted copies : List ℕ → Option ℕ) (name : List ℕ) → AreCopied from to copied
     → HasWantedRoot copied wanted copies name → IsCopiedRoot from to wanted copies name

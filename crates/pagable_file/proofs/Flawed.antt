@@ -1,5 +1,5 @@
 -- Which flaws a test of a file of blobs tells.
-use Rattle.blob_file.specs.{File.{Lists, Same, content, flushed, named, stored}, Rows.Body, declared.{file.BlobFile.BlobFile, listing.ListedBlob.ListedBlob as FileEntry}}
+use Rattle.blob_file.specs.{File.{Lists, Same, content, named, stored}, Rows.Body, declared.{file.BlobFile.BlobFile, listing.ListedBlob.ListedBlob as FileEntry}}
 use Rattle.pagable_file.proofs.Each.{all_with, each_append, each_so}
 use Rattle.pagable_file.specs.{Bodies.{blob_if_some, blobs_of}, Flaws.{IsFlaw, IsFlawAt, IsFlawOfBlobs, IsFlawOfNames, IsFlawUnder, IsIfMissing, IsLike, IsMissingChild, IsMissingRoot, IsOfSome, IsSoundAt, IsSoundName, IsStray, IsThere, IsTold, IsWhole, IsWholeUnder, IsWrongKey, Stays, TellsFlaws}, declared.fsck.Flaw.Flaw}
 use Rattle.pagable_value_spec.specs.Blob.{Blob}

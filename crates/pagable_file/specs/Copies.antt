@@ -48,6 +48,10 @@ Reaches stored root key = (path : List ℕ) × IsPath stored root path × (end_o
 abbrev pub IsInBoth : (ℕ → Option Blob) → (ℕ → Option Blob) → ℕ → Type 0
 IsInBoth from to key = (blob : Blob) × (from key ≡ Some blob) × (to key ≡ Some blob)
 
+-- both have the same blobs under all keys that this one reaches
+abbrev pub IsCopiedKey : (ℕ → Option Blob) → (ℕ → Option Blob) → ℕ → Type 0
+IsCopiedKey from to root = (key : ℕ) → Reaches from root key → IsInBoth from to key
+
 -- a name stands for the wanted key, if there is one, and that was copied
 abbrev pub HasWantedRoot : KeySet → (List ℕ → Option ℕ) → (List ℕ → Option ℕ) → List ℕ → Type 0
 HasWantedRoot copied wanted roots name = (root : ℕ) → wanted name ≡ Some root → (roots name ≡ Some root)
@@ -56,7 +60,7 @@ HasWantedRoot copied wanted roots name = (root : ℕ) → wanted name ≡ Some r
 -- a name stands for the same key in both, and both have the same blobs under all keys that this one reaches
 pub record IsSameRoot (from to : ℕ → Option Blob) (copies : List ℕ → Option ℕ) (name : List ℕ) (root : ℕ) : Type 0 where
   pub set : copies name ≡ Some root
-  pub blobs : (key : ℕ) → Reaches from root key → IsInBoth from to key
+  pub blobs : IsCopiedKey from to root
 
 abbrev pub IsCopiedRoot : (ℕ → Option Blob) → (ℕ → Option Blob) → (List ℕ → Option ℕ) → (List ℕ → Option ℕ) → List ℕ
     → Type 0

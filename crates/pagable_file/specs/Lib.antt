@@ -4,4 +4,5 @@ pub mod Flaws
 pub mod Laws
 pub mod Listed
 pub mod Plans
+pub mod Logged
 pub mod Settled

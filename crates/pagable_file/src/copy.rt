@@ -6,6 +6,7 @@ ghost use Rattle.pagable_file.specs.Copies.{
   CountsCopied,
   HasCopied,
   HasWantedRoot,
+  IsCopiedKey,
   IsCopiedRoot,
   StaysOrCopies,
   StaysOrSets,
@@ -345,4 +346,36 @@ pub fn copy<E: Env, S: Roots<E>, T: Roots<E>, W: Watch>(
     let copied = copy_reached::<E, S, T, W>(alloc, from, to, due, watch)?;
     set_roots::<E, T>(alloc, to, &copied, names, keys.as_slice())?;
     Ok(copied.len())
+}
+
+/// Copies all that these keys reach, as `copy` copies what roots reach, and sets no name.
+///
+/// # Errors
+///
+/// Some blobs may have been copied.
+///
+/// - as a fetch of `from`, or a store or a flush of `to`.
+/// - `TooDeep` if references make a ring.
+#[tactic(auto, using(crate::proofs::Copying::whole))]
+pub fn copy_keys<E: Env, S: PagableStorage<E>, T: PagableStorage<E>, W: Watch>(
+    alloc: Global,
+    from: &mut S,
+    to: &mut T,
+    keys: &[DataKey],
+    watch: &mut W,
+) -> Result<(), Error>
+    ensures copied { IsTrue (S.is_honest from.new) → IsTrue (T.is_honest to.new)
+        → OnOk result (AllByRecursion (IsCopiedKey (S.stored from.old) (T.stored to.new)) keys.now) }
+    ensures same { IsTrue (S.is_honest from.new) → S.stored from.new ≡ S.stored from.old }
+    ensures same_names { IsTrue (S.is_honest from.new) → S.roots from.new ≡ S.roots from.old }
+    ensures keeps { IsTrue (T.is_honest to.new) → Keeps (T.stored to.old) (T.stored to.new) }
+    ensures names_stay { IsTrue (T.is_honest to.new) → T.roots to.new ≡ T.roots to.old }
+    ensures honest { IsTrue (S.is_honest from.new) → IsTrue (S.is_honest from.old) }
+    ensures honest_copy { IsTrue (T.is_honest to.new) → IsTrue (T.is_honest to.old) }
+{
+    let mut due = Vec::new(alloc);
+    push_children(&mut due, keys)?;
+    let copied = copy_reached::<E, S, T, W>(alloc, from, to, due, watch)?;
+    test_children(&copied, keys)?;
+    Ok(())
 }

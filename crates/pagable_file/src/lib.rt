@@ -16,6 +16,7 @@ pub mod looking;
 pub mod open_error;
 pub mod opening;
 mod root_check;
+pub mod root_log;
 mod roots;
 pub mod stats;
 pub mod watch;
@@ -28,6 +29,7 @@ pub use listing::ListedBlob;
 pub use open_error::OpenError;
 pub use opening::FileOfBlobs;
 pub use pagable_core::Roots;
+pub use root_log::LoggedRoot;
 pub use stats::Stats;
 pub use watch::Watch;
 

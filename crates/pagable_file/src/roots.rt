@@ -16,7 +16,10 @@ use sqlite_disk::Disk;
 use std::alloc::Global;
 
 /// Returns the key with this number, or None for none. Fails with `Storage` if the number is 0.
-fn key_of_number(stats: &mut Stats, number: Option<u128>) -> Result<Option<DataKey>, Error>
+pub(crate) fn key_of_number(
+    stats: &mut Stats,
+    number: Option<u128>,
+) -> Result<Option<DataKey>, Error>
     ensures ok { IfOk result (λ key. key ≡ number) }
     ensures only { IfErr result (RefusesRead stats.old.failures stats.new.failures) }
     ensures failures_never_fall { stats.old.failures ≤ stats.new.failures }

@@ -1,7 +1,7 @@
 use Rattle.std.proofs.Common.{sym, ◌∙◌, ap, subst, List, ℕ, ◌+◌, length}
 use Rattle.std.proofs.lemmas.Bool.{or_right}
 use Rattle.sqlite_wal.specs.Reads.{IsClean}
-use Rattle.blob_file.specs.Format.{is_unmade, joined, recovered}
+use Rattle.blob_file.specs.Format.{is_unmade, joined}
 use Rattle.blob_file.specs.Rows.{Knows}
 use Rattle.blob_file.proofs.Repairs.{none_formed, none_summed, recovered_small, unmade_small}
 use Rattle.std.proofs.Common.{◌≡◌, true}
