@@ -2,11 +2,11 @@
 import os
 import subprocess
 
-from asking import key_of, run
+from asking import key_of, run, serve
 
-LOOKS = ("stat", "list", "roots", "fsck", "tree", "dot")
 NOBODY = 65534
 KEY = key_of(b"\x01")
+LOOKS = (["stat"], ["ls"], ["ls", "--all"], ["fsck"], ["fsck", "main"], ["cat", KEY], ["tree", "main"], ["dot", "main"])
 
 
 def state(folder):
@@ -21,15 +21,14 @@ def state(folder):
 
 def looks(program, file, **more):
     """The commands that look at a file and fail."""
-    words = [[word, KEY] if word in ("tree", "dot") else [word] for word in LOOKS]
-    return [it[0] for it in words if run(program, file, *it, **more).returncode]
+    return [words for words in LOOKS if run(program, file, *words, **more).returncode]
 
 
 def made(program, folder):
     """A file with a blob under a name, in a folder of its own."""
     folder.mkdir()
     file = folder / "a.blobs"
-    run(program, file, text=f"put 01\nroot main {KEY}\nflush\n")
+    serve(program, file, f"put 01\nroot main {KEY}\nflush\n")
     return file
 
 
@@ -44,16 +43,16 @@ def rights(program, folder):
     before = state(file.parent)
     if failed := looks(program, file, **plain):
         return f"a file that may only be read: {failed} fail"
-    for words, said in ((["put", "02"], "the file may not be written"), (["gc"], "the file may not be written")):
+    for words in (["put"], ["gc"], ["root", "other", "main"], ["drop", "main"], ["serve"]):
         done = run(program, file, *words, **plain)
-        if done.returncode != 1 or said not in done.stderr:
+        if done.returncode != 3 or "the file may not be written" not in done.stderr:
             return f"'{words[0]}' to a file that may only be read: {done.stdout}{done.stderr}"
-    done = run(program, file.with_name("new"), "put", "02", **plain)
-    if done.returncode != 1 or "the file may not be written" not in done.stderr or state(file.parent) != before:
+    done = run(program, file.with_name("new"), "put", **plain)
+    if done.returncode != 3 or "the file may not be written" not in done.stderr or state(file.parent) != before:
         return f"a new file in a folder that may only be read: {done.stdout}{done.stderr}"
     file.chmod(0o666)
     done = run(program, file, "gc", **plain)
-    if plain and (done.returncode != 1 or "Permission denied" not in done.stdout or len(state(file.parent)) != 1):
+    if plain and (done.returncode != 3 or "Permission denied" not in done.stderr or len(state(file.parent)) != 1):
         return f"gc in a folder that may only be read: {done.stdout}{done.stderr}"
     print("a file and a folder that may only be read are looked at and not written")
     return None
@@ -69,15 +68,15 @@ def links(program, folder):
     os.mkfifo(pipe)
     for name in (hard, soft):
         data = name.name.encode()
-        if looks(program, name) or run(program, name, "put", data.hex()).stdout.split() != [key_of(data), "flushed"]:
+        if looks(program, name) or run(program, name, "put", text=name.name).stdout != f"{key_of(data)}\n":
             return f"a file by its name {name.name} can't be looked at or written"
     if run(program, file, "stat").stdout != "3 blobs, 9 bytes, 1 names\n":
         return "what was written by other names isn't there"
     before = state(file.parent)
     for name in (ring, pipe, file.parent, "/dev/null", "/dev/zero", file / "x"):
-        for words in (["stat"], ["put", "01"], ["gc"]):
+        for words in (["stat"], ["put"], ["gc"], ["serve"]):
             done = run(program, name, *words)
-            if done.returncode != 1 or not done.stderr.startswith("blobctl: ") or done.stdout:
+            if done.returncode != 3 or not done.stderr.startswith(f"blobctl: {name}: ") or done.stdout:
                 return f"'{words[0]}' of {name}: {done.returncode} {done.stdout}{done.stderr}"
     if state(file.parent) != before:
         return "what is no file of blobs has changed"
@@ -90,17 +89,18 @@ def names(program, folder):
     folder = folder / "names"
     folder.mkdir()
     odd = ["a name", "line\nfeed", "d\u00e9j\u00e0", "'\"$(x)*", "stat", "./-x", "x" * 252, ":memory:", "file:a"]
+    how = {"cwd": folder, "input": "\1", "capture_output": True, "text": True, "check": False}
     for name in odd:
-        said = subprocess.run([program, name, "put", "01"], cwd=folder, capture_output=True, text=True, check=False)
-        if said.stdout.split() != [KEY, "flushed"] or not (folder / name).exists():
+        said = subprocess.run([program, name, "put"], **how)
+        if said.stdout != f"{KEY}\n" or not (folder / name).exists():
             return f"a file called {name!r}: {said.stdout}{said.stderr}"
-        done = subprocess.run([program, name, "gc"], cwd=folder, capture_output=True, text=True, check=False)
+        done = subprocess.run([program, name, "gc"], **how)
         if (done.stdout == "0 blobs kept\n") != (len(name) < 252):
             return f"gc of a file called {name!r}: {done.stdout}{done.stderr}"
     if (left := sorted(it.name for it in folder.iterdir())) != sorted(name.removeprefix("./") for name in odd):
         return f"odd names: {left}"
-    said = subprocess.run([program, "", "put", "01"], cwd=folder, capture_output=True, text=True, check=False)
-    if said.returncode != 1 or said.stdout:
+    said = subprocess.run([program, "", "put"], **how)
+    if said.returncode != 3 or said.stdout:
         return f"an empty name: {said.stdout}{said.stderr}"
     print(f"{len(odd)} odd names")
     return None

@@ -17,6 +17,16 @@ def run(program, file, *words, text="", **more):
                           errors="replace", check=False, timeout=100, **more)
 
 
+def serve(program, file, text="", **more):
+    """What the program answers to lines of input."""
+    return run(program, file, "serve", text=text, **more)
+
+
+def roots_of(program, file):
+    """The names of roots that a file shows, each with its key."""
+    return dict(re.findall(r"(?m)^(.*) ([0-9a-f]{32}) \d+ versions$", run(program, file, "ls").stdout))
+
+
 def key_of(data, children=()):
     """The key of a blob, as the program shows it."""
     preimage = len(children).to_bytes(8, "little") + data + b"".join(map(bytes.fromhex, children))
@@ -50,10 +60,10 @@ def alone(file):
 
 
 def seen(program, file):
-    """All that a file shows: what `fsck` says, its keys, its roots, and what each of these reaches."""
-    test, *shown = [run(program, file, word) for word in ("fsck", "list", "roots")]
-    trees = [run(program, file, "tree", key).stdout for key in re.findall(r"(?m)^\S+ ([0-9a-f]{32})$", shown[1].stdout)]
-    return test.returncode, test.stdout, [sorted(it.stdout.splitlines()) for it in shown], trees
+    """All that a file shows but for versions: what `fsck` says, its blobs, its roots, and what each of them reaches."""
+    test, roots = run(program, file, "fsck"), roots_of(program, file)
+    trees = [run(program, file, "tree", key).stdout for key in roots.values()]
+    return test.returncode, test.stdout, run(program, file, "ls", "--all").stdout, roots, trees
 
 
 def flushes(said):
@@ -70,10 +80,10 @@ def lost(program, file, roots, answered, batch):
         return f"fsck: {test.stdout[-200:]}{test.stderr[-200:]}"
     if not answered:
         return None
-    root = run(program, file, "roots").stdout.split()
-    if len(root) != 2 or root[1] not in roots[answered - 1:]:
+    root = roots_of(program, file)
+    if list(root) != ["last"] or root["last"] not in roots[answered - 1:]:
         return f"the root is {root} after {answered} flushes"
-    count = len(run(program, file, "tree", root[1]).stdout.splitlines())
+    count = len(run(program, file, "tree", root["last"]).stdout.splitlines())
     if count < answered * batch:
         return f"the root reaches {count} blobs of {answered * batch}"
     return None

@@ -25,11 +25,11 @@ import access  # noqa: E402
 import collecting  # noqa: E402
 import damages  # noqa: E402
 import databases  # noqa: E402
-import plain_lines  # noqa: E402
+import plainly  # noqa: E402
 import power  # noqa: E402
 import refusing  # noqa: E402
 from asking import (  # noqa: E402
-    DRAWN, alone, chain, flushes, key_of, kill, limit_files, lost, removed, run, seen, wait_until,
+    DRAWN, alone, chain, flushes, key_of, kill, limit_files, lost, removed, roots_of, run, seen, serve, wait_until,
 )
 from build import built_crate, need  # noqa: E402
 from plain_file import PlainFile  # noqa: E402
@@ -43,7 +43,7 @@ def killed_after(program, file, lines, count, delay):
     then, or None if it had ended before."""
     said = lines.with_name("said")
     with open(lines, encoding="utf-8") as read, open(said, "w", encoding="utf-8") as write:
-        with subprocess.Popen([program, file], stdin=read, stdout=write) as filling:
+        with subprocess.Popen([program, file, "serve"], stdin=read, stdout=write) as filling:
             wait_until(lambda: flushes(said.read_text(encoding="utf-8")) >= count, filling)
             time.sleep(delay)
             met = kill(filling)
@@ -78,8 +78,8 @@ class Beside:
 
     def write(self):
         """Flushes a chain of blobs, each over the one before, until the time is over."""
-        with subprocess.Popen([self.program, self.file], stdin=subprocess.PIPE, stdout=subprocess.PIPE, text=True,
-                              bufsize=1) as writing:
+        with subprocess.Popen([self.program, self.file, "serve"], stdin=subprocess.PIPE, stdout=subprocess.PIPE,
+                              text=True, bufsize=1) as writing:
             below = []
             while time.time() < self.end:
                 data = DRAWN.randbytes(200)
@@ -104,22 +104,22 @@ class Beside:
         """Looks at the file, which takes no lock."""
         while time.time() < self.end:
             answered = self.answered
-            words, test = run(self.program, self.file, "roots").stdout.split(), run(self.program, self.file, "fsck")
+            roots, test = roots_of(self.program, self.file), run(self.program, self.file, "fsck")
             if not test.stdout.endswith(" 0 flaws\n"):
                 self.odd.append((test.stdout, test.stderr))
             else:
                 count = int(test.stdout.splitlines()[-1].split()[0])
-                self.told("looks", answered, words[1] if words else None, count)
+                self.told("looks", answered, roots.get("last"), count)
 
     def copy(self):
         """Copies the file, and opens the copy to look at it and to write it."""
         while time.time() < self.end:
             answered, copy = self.answered, alone(self.file)
             plain = PlainFile(copy.read_bytes())
-            shown = sorted(run(self.program, copy, "list").stdout.splitlines())
-            run(self.program, copy, "flush")
-            again, test = run(self.program, copy, "list").stdout.splitlines(), run(self.program, copy, "fsck")
-            if not plain.listed() == shown == sorted(again) or test.returncode:
+            shown = run(self.program, copy, "ls", "--all").stdout.splitlines()
+            serve(self.program, copy)
+            again, test = run(self.program, copy, "ls", "--all").stdout.splitlines(), run(self.program, copy, "fsck")
+            if not plain.listed() == shown == again or test.returncode:
                 self.odd.append((plain.listed()[-1:], shown[-1:], test.stdout[-200:]))
             self.told("copies", answered, plain.names.get("last"), len(plain.blobs))
 
@@ -127,7 +127,7 @@ class Beside:
 def beside(program, folder, seconds):
     """Looks at a file and copies it while another process writes it."""
     file = removed(folder / "beside.blobs")
-    run(program, file, "flush")
+    serve(program, file)
     both = Beside(program, file, seconds)
     threads = [threading.Thread(target=it) for it in (both.write, both.look, both.copy)]
     for thread in threads:
@@ -147,13 +147,13 @@ def full_disk(program, folder):
     """Lets no file grow past 400 kB."""
     file = removed(folder / "full.blobs")
     lines, roots = chain(2_000, 300, 5)
-    filled = run(program, file, text=lines, preexec_fn=lambda: limit_files(400_000))
+    filled = serve(program, file, lines, preexec_fn=lambda: limit_files(400_000))
     refused = [line for line in filled.stdout.splitlines() if line.startswith("error: the disk")]
     if not refused or filled.returncode:
         return f"full disk: {filled.returncode} {filled.stdout[-200:]}"
     answered = flushes(filled.stdout)
     fault = lost(program, alone(file), roots, answered, 5)
-    again = run(program, file, text=lines)
+    again = serve(program, file, lines)
     if fault or flushes(again.stdout) != 400:
         return f"full disk: {fault} {again.stdout[-200:]}"
     print(f"full disk: '{refused[0]}' after {answered * 5} blobs, which stayed, and the next run went on")
@@ -164,15 +164,16 @@ def copies(program, folder):
     """Copies a file after each command: the copy has to show all that the file shows."""
     file, other = removed(folder / "source.blobs"), removed(folder / "other.blobs")
     lines, roots = chain(300, 300, 50)
-    commands = [["put", "01"], ["root", "one", key_of(b"\x01")], ["stat"], ["list"], ["roots"], ["tree", roots[-1]],
-                ["dot", roots[-1]], ["fsck"], ["copy", other], ["drop", "last"], ["gc"], ["flush"]]
-    run(program, file, text=lines)
+    looks = [["stat"], ["ls"], ["ls", "--all"], ["ls", "last"], ["log", "last"], ["cat", "last~2"], ["tree", "last"],
+             ["dot", roots[-1]], ["fsck"], ["fsck", "last"], ["cache", "stat"], ["copy", other]]
+    commands = [["put"], ["root", "one", key_of(b"\x01")], *looks, ["drop", "last"], ["gc"], ["serve"]]
+    serve(program, file, lines)
     for words in [["fsck"], *commands]:
-        before, done = file.read_bytes(), run(program, file, *words)
+        before, done = file.read_bytes(), run(program, file, *words, text="\1" if words == ["put"] else "")
         shown = seen(program, alone(file))
         if done.returncode or " 0 flaws\n" not in shown[1] or shown != seen(program, file):
             return f"copies: {done.stdout[-200:]}{done.stderr}; a copy behind '{words[0]}' shows {shown[1][-200:]}"
-        if words[0] in ("stat", "list", "roots", "tree", "dot", "fsck", "copy") and file.read_bytes() != before:
+        if words in looks and file.read_bytes() != before:
             return f"copies: '{words[0]}' wrote to the file"
         if words[0] == "copy" and shown != seen(program, other):
             return "copies: what `copy` wrote shows something else"
@@ -186,7 +187,7 @@ def copies(program, folder):
 def size(program, folder):
     """Stores many small blobs in one flush, which writes their bytes and 24 for each."""
     file, count, each = removed(folder / "size.blobs"), 20_000, 600
-    run(program, file, text="".join(f"put {DRAWN.randbytes(each).hex()}\n" for _ in range(count)) + "flush\n")
+    serve(program, file, "".join(f"put {DRAWN.randbytes(each).hex()}\n" for _ in range(count)) + "flush\n")
     if file.stat().st_size != 16 + 25 + count * (each + 24) + 1:
         return f"size: one flush of {count * each} bytes made a file of {file.stat().st_size}"
     print(f"size: one flush of {count} blobs of {each} bytes made a file of {file.stat().st_size} bytes")
@@ -265,32 +266,99 @@ def texts(program, folder):
         if said.returncode or said.stdout != "".join(f"{answer}\n" for _, _, answer in asked):
             return f"texts: {said.returncode} {said.stdout}{said.stderr}"
         file = alone(file).rename(removed(file))
-    roots, test = run(program, file, "roots").stdout, run(program, file, "fsck")
-    if sorted(roots.split("\n")) != ["", f"main {keys[1]}", f"other {keys[0]}"] or test.returncode:
+    roots, test = roots_of(program, file), run(program, file, "fsck")
+    if roots != {"main": keys[1], "other": keys[0]} or test.returncode:
         return f"texts: {roots}{test.stdout}"
-    if run(program, "texts", folder / "none" / "texts.blobs").returncode != 1:
+    if run(program, "texts", folder / "none" / "texts.blobs").returncode != 3:
         return "texts: a file in a folder that isn't there was opened"
     print(f"texts: {len(TEXTS)} runs, each on a copy of the file, with what was flushed before, and no more")
     return None
 
 
 def statuses(program, folder):
-    """Calls that are none of the usage end with the status 2, and those that fail with 1; neither makes a file."""
+    """Wrong calls end with the status 2, commands that find nothing with 1, and those whose file fails with 3. None of
+    them makes a file or prints anything but why on standard error."""
     file, none = removed(folder / "statuses.blobs"), folder / "none.blobs"
-    key = run(program, file, "put", "01").stdout.split()[0]
-    usage, missing = ("", "usage: blobctl FILE ["), ("", f"blobctl: {none}: there is no such file\n")
-    bare = [["texts"], ["-f"], [none, "stats"], [none, "stat", "more"], [none, "tree"], [none, "copy"], [none, "put"]]
-    bare += [["import-old"], ["import-old", none], ["import-old", file, none, none], [none, "export-db"], [none, ""]]
-    wanted = [(words, 2, usage) for words in [[], *bare]]
-    looks = (["stat"], ["list"], ["roots"], ["tree", key], ["dot", key], ["fsck"], ["copy", file], ["export-db", file])
-    for words in (*looks, ["gc"]):
-        wanted.append(([none, *words], 1, missing))
-    wanted += [([file, "tree", "no"], 1, ("bad line\n", "")), ([file, "put", "0"], 1, ("bad line\n", ""))]
-    for words, status, (said, why) in wanted:
+    key = run(program, file, "put", text="a").stdout.split()[0]
+    other = run(program, file, "put", text="b").stdout.split()[0]
+    missing, unknown = f"blobctl: {none}: there is no such file\n", f"blobctl: {file}: no root and no key is called "
+    wrong = [["texts"], ["-f"], [none], [none, "stats"], [none, "stat", "more"], [none, "tree"], [none, "copy"],
+             [none, "import-old"], [none, "export-db"], [none, ""], [none, "texts", file], [none, "diff", "a"],
+             [none, "ls", "--all", "main"], ["texts", none, "more"], [none, "put", "-", "more"], [none, "gc", "--keep", "0"]]
+    wanted = [(words, 2, "") for words in [[], *wrong]]
+    wanted.append(([file, "root", "", key], 2, f"blobctl: {file}: a root's name"))
+    looks = (["stat"], ["ls"], ["ls", "--all"], ["cat", key], ["tree", key], ["dot", key], ["fsck"], ["copy", file],
+             ["export-db", file])
+    wanted += [([none, *words], 3, missing) for words in (*looks, ["gc"], ["root", "a", key], ["drop", "a"])]
+    wanted += [([file, *words, "no"], 1, f"{unknown}no\n") for words in (["cat"], ["ls"], ["root", "a"])]
+    wanted += [([file, "fsck", "a"], 1, f"blobctl: {file}: no root is called a\n"),
+               ([file, "drop", "a\nb"], 1, f"blobctl: {file}: no root is called a\\nb\n"),
+               ([file, "copy", none, "a"], 1, f"blobctl: {file}: no root is called a\n"),
+               ([file, "cat", "0" * 31 + "1"], 1, f"blobctl: {file}: no blob stands under {'0' * 31}1\n"),
+               ([file, "put", none], 3, f"blobctl: {file}: {none}: "),
+               ([file, "copy", folder], 3, f"blobctl: {file}: {folder}: the path names no regular file\n")]
+    for words, status, why in wanted:
         done = subprocess.run([program, *words], input="", capture_output=True, text=True, check=False)
-        if (done.returncode, done.stdout) != (status, said) or not done.stderr.startswith(why) or none.exists():
+        if (done.returncode, done.stdout) != (status, "") or not done.stderr.startswith(why) or none.exists():
             return f"statuses: {words} gives {done.returncode} {done.stdout}{done.stderr}"
-    print(f"statuses: {len(wanted)} calls that are none or fail")
+    if (found := beginnings(program, file, key, other)):
+        return found
+    print(f"statuses: {len(wanted)} calls that are wrong or fail")
+    return None
+
+
+def beginnings(program, file, key, other):
+    """What is wrong with keys that are named by their first digits, or None. of 20,000 blobs two begin alike."""
+    made = {}
+    for number in range(20_000):
+        made.setdefault(key_of(str(number).encode())[:6], []).append(str(number))
+    alike = next(numbers for numbers in made.values() if len(numbers) > 1)
+    keys = sorted(key_of(number.encode()) for number in alike)
+    serve(program, file, "".join(f"put {number.encode().hex()}\n" for number in alike) + "flush\n")
+    done = run(program, file, "cat", keys[0][:6])
+    said = f"blobctl: {file}: {keys[0][:6]} is the beginning of {len(keys)} keys: {' '.join(keys)}\n"
+    if (done.returncode, done.stdout, done.stderr) != (1, "", said):
+        return f"beginnings: {done}"
+    for wanted, data in ((key, "a"), (other, "b")):
+        found = [run(program, file, "cat", word).stdout for word in (wanted, wanted[:16], wanted[:16].upper())]
+        if found != [data] * 3 or run(program, file, "cat", wanted[:3]).returncode != 1:
+            return f"beginnings: {found}"
+    return None
+
+
+def helps(program, _):
+    """Help and version are printed on standard output, with the status 0."""
+    version = subprocess.run([program, "--version"], capture_output=True, text=True, check=False)
+    if (version.returncode, version.stdout, version.stderr) != (0, "blobctl 0.4.2\n", ""):
+        return f"helps: {version}"
+    commands = ["ls", "log", "cat", "tree", "dot", "stat", "fsck", "copy", "export-db", "put", "root", "drop",
+                "gc", "import-old", "serve", "texts", "cache"]
+    for words in (["help"], ["--help"], ["-h"], *(["help", name] for name in commands), ["a.blobs", "ls", "--help"]):
+        done = subprocess.run([program, *words], capture_output=True, text=True, check=False)
+        usage = f"Usage: blobctl FILE {words[-1]}" if len(words) == 2 and words[1] != "texts" else "Usage: blobctl "
+        if done.returncode or done.stderr or usage not in done.stdout:
+            return f"helps: {words} gives {done}"
+    shown = subprocess.run([program, "help"], capture_output=True, text=True, check=False).stdout
+    if missing := [name for name in commands if f"\n  {name} " not in shown]:
+        return f"helps: {missing} aren't among the commands"
+    print(f"helps: of {len(commands)} commands, and the version")
+    return None
+
+
+def pipes(program, folder):
+    """A reader of the output that goes away ends a command quietly; a full device is told."""
+    file = removed(folder / "pipes.blobs")
+    run(program, file, "put", text="x" * 1_000_000)
+    run(program, file, "root", "main", key_of(b"x" * 1_000_000))
+    with subprocess.Popen([program, file, "cat", "main"], stdout=subprocess.PIPE, stderr=subprocess.PIPE) as showing:
+        showing.stdout.close()
+        status, why = showing.wait(), showing.stderr.read()
+    with open("/dev/full", "w", encoding="utf-8") as full:
+        done = subprocess.run([program, file, "ls"], stdout=full, stderr=subprocess.PIPE, text=True, check=False)
+    told = done.stderr.startswith(f"blobctl: {file}: standard output: ")
+    if (status, why) != (0, b"") or done.returncode != 3 or not told:
+        return f"pipes: {status} {why}, {done}"
+    print("pipes: one that is closed ends a command quietly, a full device is told")
     return None
 
 
@@ -308,7 +376,8 @@ def main():
             (beside, seconds), (damages.opens,), (damages.flaws,), (damages.flaws_under,), (damages.each_byte,),
             (damages.each_length,),
             (access.rights,), (access.links,), (access.names,), (databases.imports,), (databases.exports,),
-            (copies,), (size,), (full_disk,), (texts,), (statuses,), (plain_lines.answers,), (power.power, rounds // 2),
+            (copies,), (size,), (full_disk,), (texts,), (statuses,), (helps,), (pipes,), (plainly.stored_run,),
+            (plainly.drawn_lines,), (plainly.commands,), (plainly.kept,), (power.power, rounds // 2),
             (refusing.refusals, sources),
         ]
         faults = [test(program, folder, *words) for test, *words in tests]

@@ -5,7 +5,7 @@ import subprocess
 import threading
 import time
 
-from asking import DRAWN, chain, key_of, kill, limit_files, removed, run, seen, wait_until
+from asking import DRAWN, chain, key_of, kill, limit_files, removed, roots_of, run, seen, serve, wait_until
 
 # When a `gc` is killed: at a drawn moment; once FILE.new holds blobs; once FILE is another file.
 DRAWN_MOMENT, HALF_COPIED, REPLACED = range(3)
@@ -29,7 +29,7 @@ class Race:
         while time.time() < self.end:
             word = f"{name}{len(self.flushed)}"
             key = key_of(word.encode())
-            done = run(self.program, self.file, text=f"put {word.encode().hex()}\nroot {word} {key}\nflush\n")
+            done = serve(self.program, self.file, f"put {word.encode().hex()}\nroot {word} {key}\nflush\n")
             if (done.returncode, done.stdout.split()) == (0, [key, "set", "flushed"]):
                 self.flushed[word] = key
             else:
@@ -64,10 +64,10 @@ class Race:
 def race(program, folder, seconds):
     """Collects garbage beside two writers: nothing that was flushed may be gone."""
     file = removed(folder / "race.blobs")
-    run(program, file, "put", "00")
+    run(program, file, "put", text="0")
     runs = Race(program, file, seconds)
     runs.run()
-    roots = dict(line.rsplit(" ", 1) for line in run(program, file, "roots").stdout.splitlines())
+    roots = roots_of(program, file)
     gone = sorted(name for name, key in runs.flushed.items() if roots.get(name) != key)
     test = run(program, file, "fsck")
     if gone or test.returncode or runs.odd:
@@ -110,7 +110,7 @@ def refused_beside(program, file, new):
     """Whether a gc of a file is refused by the name of a file that stands where its new one would, and leaves that."""
     content = new.read_bytes()
     done = run(program, file, "gc")
-    return done.returncode == 1 and f"{new} is there already" in done.stdout and new.read_bytes() == content
+    return done.returncode == 3 and f"{new} is there already" in done.stderr and new.read_bytes() == content
 
 
 def kept_by_killed(program, file, names, count):
@@ -121,7 +121,7 @@ def kept_by_killed(program, file, names, count):
             return f"a gc beside {new.name} isn't refused by its name"
         new.unlink()
     test = run(program, file, "fsck")
-    roots = dict(line.split() for line in run(program, file, "roots").stdout.splitlines())
+    roots = roots_of(program, file)
     many = len(run(program, file, "tree", names["main"]).stdout.splitlines())
     if test.returncode or roots != names or many != count:
         told = f"{test.stdout[-200:]}{test.stderr[-200:]}"
@@ -133,7 +133,7 @@ def kills(program, folder, rounds):
     """Kills gc of a file: the file has to keep what its roots reach."""
     file, count = removed(folder / "collected.blobs"), 1_000
     lines, roots = chain(count, 600, count)
-    run(program, file, text=lines.replace("root last", "root main"))
+    serve(program, file, lines.replace("root last", "root main"))
     begun = time.time()
     run(program, file, "gc")
     whole, names, states, turns = time.time() - begun, {"main": roots[-1]}, [], 0
@@ -141,7 +141,7 @@ def kills(program, folder, rounds):
         turns += 1
         data = f"r{turns}".encode()
         names[data.decode()] = key_of(data)
-        run(program, file, text=f"put {data.hex()}\nput ff{data.hex()}\nroot r{turns} {key_of(data)}\nflush\n")
+        serve(program, file, f"put {data.hex()}\nput ff{data.hex()}\nroot r{turns} {key_of(data)}\nflush\n")
         number = file.stat().st_ino
         met, is_half = kill_gc(program, file, turns % 3, whole), size_of(new_of(file)) > 1000
         is_old = file.stat().st_ino == number
@@ -190,16 +190,16 @@ def refusals(program, file, shown):
     for taken in (lambda: new.write_text("mine", encoding="utf-8"), lambda: new.symlink_to("nothing")):
         taken()
         done = run(program, file, "gc")
-        if done.returncode != 1 or f"{new} is there already" not in done.stdout or not os.path.lexists(new):
+        if done.returncode != 3 or f"{new} is there already" not in done.stderr or not os.path.lexists(new):
             return f"gc beside {new.name}: {done.stdout}{done.stderr}"
         new.unlink()
     os.link(file, other)
     done = run(program, file, "gc")
-    if done.returncode != 1 or "the file has 2 names" not in done.stdout or new.exists():
+    if done.returncode != 3 or "the file has 2 names" not in done.stderr or new.exists():
         return f"gc of a file with two names: {done.stdout}{done.stderr}"
     other.unlink()
     done = run(program, file, "gc", preexec_fn=lambda: limit_files(20_000))
-    if done.returncode != 1 or "the disk failed" not in done.stdout or new.exists():
+    if done.returncode != 3 or "the disk failed" not in done.stderr or new.exists():
         return f"gc on a full disk: {done.stdout}{done.stderr}"
     if log.read_text(encoding="utf-8") != "mine" or file.read_bytes() != before:
         return "gc that was refused: a file has changed"
@@ -208,8 +208,8 @@ def refusals(program, file, shown):
 
 def garbage(program, file):
     """What a gc of a file leaves out, and that it asks for a file."""
-    run(program, file, text=f"put {'00' * 5000}\nflush\n")
-    before, blobs = file.stat().st_size, len(run(program, file, "list").stdout.splitlines())
+    run(program, file, "put", text="0" * 5000)
+    before, blobs = file.stat().st_size, len(run(program, file, "ls", "--all").stdout.splitlines())
     done = run(program, file, "gc")
     if done.stdout != f"{blobs - 1} blobs kept\n" or file.stat().st_size > before - 5000:
         return f"gc: {done.stdout} of {blobs}, {file.stat().st_size} bytes of {before}"
@@ -220,7 +220,7 @@ def keeps(program, folder):
     """What a gc keeps of a file, and when it is refused."""
     file = removed(folder / "kept.blobs")
     lines, _ = chain(100, 300, 100)
-    run(program, file, text=lines)
+    serve(program, file, lines)
     shown = seen(program, file)
     fault = access(program, file, shown) or refusals(program, file, shown) or garbage(program, file)
     fault = fault or shows_same(program, file, shown, "a gc of what no root reaches")

@@ -10,7 +10,7 @@ import re
 import resource
 import subprocess
 
-from asking import limit_files, removed, run
+from asking import limit_files, removed, run, serve
 from plain_file import PlainFile, Refused, batch, blob, file_of, key_of
 
 SOURCE = pathlib.Path(__file__).resolve().parent.parent.parent / "crates" / "pagable_file" / "src"
@@ -47,7 +47,7 @@ UNDER = [
      [f"root main is {ABSENT}, which is missing"], 0),
     ([FIRST, STRAY], [(b"main", ABSENT), (b"other", FIRST[0])], "other", [], 1),
     ([STRAY], [(b"main", OTHER)], "main", [f"what stands under {OTHER} is no blob"], 1),
-    ([STRAY], [(b"main", OTHER)], "none", ["error: no root is called none"], None),
+    ([STRAY], [(b"main", OTHER)], "none", ["no root is called none"], None),
 ]
 # For each kind of flaw, a pattern of the lines that tell it.
 FLAWS = {
@@ -108,9 +108,10 @@ def flaws_under(program, folder):
     file = folder / "under.blobs"
     for blobs, names, name, wanted, count in UNDER:
         file.write_bytes(file_of(batch(blobs, names)))
-        test = run(program, file, "fsck", *name.split(" "))
+        test = run(program, file, "fsck", name)
         lines = [*wanted] if count is None else [*wanted, f"{count} blobs, {len(wanted)} flaws"]
-        if sorted(test.stdout.splitlines()) != sorted(lines) or test.returncode != int(bool(wanted)):
+        said = test.stdout + test.stderr.removeprefix(f"blobctl: {file}: ")
+        if sorted(said.splitlines()) != sorted(lines) or test.returncode != int(bool(wanted)):
             return f"fsck {name}: {test.stdout}{test.stderr} in place of {lines}"
     print(f"flaws: fsck NAME names those of what the name reaches, in {len(UNDER)} files")
     return None
@@ -118,7 +119,7 @@ def flaws_under(program, folder):
 
 def looked(program, file):
     """What a file shows: its blobs, names and flaws, and how many bytes don't count; or why it isn't opened."""
-    shown = [run(program, file, word) for word in ("list", "roots", "fsck")]
+    shown = [run(program, file, *words) for words in (["ls", "--all"], ["ls"], ["fsck"])]
     if any("blobctl:" in it.stderr for it in shown):
         return {it.stderr.strip().rpartition(": ")[2] for it in shown}
     listed, roots, _ = [it.stdout.splitlines() for it in shown]
@@ -145,7 +146,7 @@ def small(program, file):
     """A file of three batches that the program made: the last takes a name away."""
     lines = ["put 6669727374", f"root main {FIRST[0]}", f"root side {FIRST[0]}", "flush"]
     lines += [f"put 7365636f6e64 {FIRST[0]}", f"root main {SECOND[0]}", "flush", "drop side", "flush"]
-    run(program, removed(file), text="\n".join(lines) + "\n")
+    serve(program, removed(file), "\n".join(lines) + "\n")
     content = file.read_bytes()
     by_hand = file_of(
         batch([FIRST], [(b"main", FIRST[0]), (b"side", FIRST[0])]),
@@ -186,7 +187,7 @@ def each_length(program, folder):
         file.write_bytes(content[:length])
         wanted = plainly(content[:length])
         found = looked(program, file)
-        run(program, file, text="")
+        serve(program, file)
         again = looked(program, file)
         if not found == again == wanted:
             return f"cut at {length}: {found}, and {again} once it was opened, in place of {wanted}"
@@ -196,11 +197,11 @@ def each_length(program, folder):
 
 def in_use(program, file):
     """Opens a file that another process has open."""
-    with subprocess.Popen([program, file], stdin=subprocess.PIPE, stdout=subprocess.PIPE, text=True) as first:
+    with subprocess.Popen([program, file, "serve"], stdin=subprocess.PIPE, stdout=subprocess.PIPE, text=True) as first:
         first.stdin.write("put 01\n")
         first.stdin.flush()
         first.stdout.readline()
-        said = run(program, file, "flush")
+        said = serve(program, file)
         first.stdin.close()
     return said
 
@@ -210,10 +211,10 @@ def without_memory(program, file):
     file.write_bytes(file_of(batch([(f"{number:032x}", 0, b"") for number in range(1, 20_000)])))
     most = 2**25
     limit = lambda: resource.setrlimit(resource.RLIMIT_AS, (most, most))
-    said = run(program, file, "flush", preexec_fn=limit)
+    said = serve(program, file, preexec_fn=limit)
     while said.returncode == 0 and most > 2**16:
         most = most * 49 // 50
-        said = run(program, file, "flush", preexec_fn=limit)
+        said = serve(program, file, preexec_fn=limit)
     return said
 
 
@@ -235,17 +236,17 @@ def opens(program, folder):
         "OutOfMemory": without_memory(program, inner / "many"),
         "InUse": in_use(program, whole),
         "NotAFile": run(program, inner, "stat"),
-        "MayNotWrite": run(program, shut, "flush", **plain),
+        "MayNotWrite": serve(program, shut, **plain),
         "MayNotRead": run(program, shut, "stat", **plain),
         "Missing": run(program, fresh, "stat"),
-        "FolderMissing": run(program, fresh / "a", "flush"),
+        "FolderMissing": serve(program, fresh / "a"),
         "LinkLoop": run(program, ring, "stat"),
         "NotBlobs": run(program, other, "stat"),
         "Damaged": run(program, damaged, "stat"),
-        "Io": run(program, fresh, "flush", preexec_fn=lambda: limit_files(0)),
+        "Io": serve(program, fresh, preexec_fn=lambda: limit_files(0)),
     }
     wrong = [f"{cause}: {it.stdout}{it.stderr}" for cause, it in said.items()
-             if not it.stderr.endswith(f": {CAUSES[cause]}\n") or it.stdout or it.returncode != 1]
+             if not it.stderr.endswith(f": {CAUSES[cause]}\n") or it.stdout or it.returncode != 3]
     wrong += [f"no test meets {cause}" for cause in (variants("open_error.rt", "OpenError") ^ set(said)) - {"Replaced"}]
     if [whole.read_bytes(), other.read_bytes(), damaged.read_bytes()] != [content, b"no blobs", bad]:
         wrong.append("a file that was refused has changed")

@@ -5,7 +5,7 @@ import sqlite3
 import struct
 import subprocess
 
-from asking import chain, key_of, removed, run, seen
+from asking import chain, key_of, removed, roots_of, run, seen, serve
 
 # The tables of the earlier form: a row stands at 63 bits of its key.
 OLD = """CREATE TABLE blobs (place INTEGER PRIMARY KEY, key BLOB NOT NULL, bytes BLOB NOT NULL, children BLOB NOT NULL)
@@ -67,7 +67,7 @@ def with_log(file):
 
 def imported(program, old, file):
     """What is said of an import, and what it leaves."""
-    done = subprocess.run([program, "import-old", old, file], capture_output=True, text=True, check=False, timeout=100)
+    done = subprocess.run([program, file, "import-old", old], capture_output=True, text=True, check=False, timeout=100)
     left = sorted(it.name for it in file.parent.iterdir() if it.name.startswith((old.name, file.name)))
     return done, left
 
@@ -82,15 +82,15 @@ def imports(program, folder):
     if (done.stdout, left) != ("3 blobs, 2 names imported\n", ["new.blobs", "old.db"]):
         return f"import: {done.stdout}{done.stderr}, {left}"
     wanted = sorted(f"{key} {len(data)} bytes, {len(keys) // 32} children" for key, data, keys in BLOBS)
-    listed, roots = run(program, file, "list").stdout.splitlines(), run(program, file, "roots").stdout.splitlines()
-    if sorted(listed) != wanted or sorted(roots) != sorted([rf"a\nb {FIRST}", f"main {SECOND}"]):
+    listed, roots = run(program, file, "ls", "--all").stdout.splitlines(), roots_of(program, file)
+    if listed != wanted or roots != {r"a\nb": FIRST, "main": SECOND}:
         return f"import: {listed}, {roots}"
     if run(program, file, "fsck").returncode or old.read_bytes() != before:
         return "import: a flaw, or the database has changed"
     damaged, again = folder / "damaged.db", folder / "damaged.blobs"
     damaged.write_bytes(before[:5000] + b"?" + before[5001:])
     done, left = imported(program, damaged, again)
-    if "the database: " not in done.stdout or again.exists():
+    if "the database: " not in done.stderr or again.exists():
         return f"import of a page with another sum: {done.stdout}{done.stderr}"
     damaged.unlink()
     with_log(folder / "log.db")
@@ -115,17 +115,18 @@ def refused_imports(program, folder, old, taken):
     }
     for said, rows in changed.items():
         done, left = imported(program, old_database(other, *rows), file)
-        if said not in done.stdout or done.returncode != 1 or left != ["other.db"]:
+        status = 1 if "stands under" in said else 3
+        if said not in done.stderr or done.returncode != status or left != ["other.db"]:
             return f"import of {rows}: {done.stdout}{done.stderr}, {left}"
     for source, to, said in (
-        (none, file, "there is no such file"),
+        (none, file, f"{none}: there is no such file"),
         (text, file, "the database: "),
         (old_database(other, [], [], "CREATE TABLE blobs (key TEXT)"), file, "the database: "),
         (taken, file, "the database: "),
         (old, taken, "is there already"),
     ):
         done, left = imported(program, source, to)
-        if said not in done.stdout or done.returncode != 1 or file.exists() or f"{source.name}-wal" in left:
+        if said not in done.stderr or done.returncode != 3 or file.exists() or f"{source.name}-wal" in left:
             return f"import of {source.name}: {done.stdout}{done.stderr}, {left}"
     if taken.read_bytes() != content or text.read_bytes() != b"no database" * 100 or none.exists():
         return "import: a file that is there has changed, or one was made"
@@ -139,7 +140,7 @@ def exports(program, folder):
     folder.mkdir()
     file, made, again = (folder / name for name in ("some.blobs", "some.db", "again.blobs"))
     lines, roots = chain(2_500, 300, 500)
-    run(program, file, text=lines)
+    serve(program, file, lines)
     before, done = file.read_bytes(), run(program, file, "export-db", made)
     if done.stdout != "2500 blobs, 1 names exported\n" or file.read_bytes() != before:
         return f"export: {done.stdout}{done.stderr}"
@@ -149,8 +150,8 @@ def exports(program, folder):
     if said.stdout.splitlines() != ["ok", f"2500|{2500 * 300}|{2499 * 16}", f"last|{roots[-1]}"]:
         return f"export: sqlite3 says {said.stdout}{said.stderr}"
     taken = run(program, file, "export-db", made)
-    if "is there already" not in taken.stdout or taken.returncode != 1:
-        return f"export to a file that is there: {taken.stdout}"
+    if "is there already" not in taken.stderr or taken.returncode != 3:
+        return f"export to a file that is there: {taken.stderr}"
     done, left = imported(program, made, again)
     if done.returncode or left != ["again.blobs", "some.db"] or seen(program, again) != seen(program, file):
         return f"export: what is imported of it differs: {done.stdout}{done.stderr}, {left}"

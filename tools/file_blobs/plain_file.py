@@ -84,11 +84,12 @@ class Refused(Exception):
 
 class PlainFile:
     """What a file stands for: blobs by their keys, each with its number of children and its body, and names with their
-    keys. `batches` tells where each batch begins and how many bytes its bodies and its rows have, `end` where the last
-    one ends."""
+    keys, and with how many versions these are of each. `batches` tells where each batch begins and how many bytes its
+    bodies and its rows have, `end` where the last one ends."""
 
     def __init__(self, content):
         self.content, self.blobs, self.names, self.batches, self.end = content, {}, {}, [], 0
+        self.versions = {}
         if len(content) <= 17 and all(byte in (0, own) for byte, own in zip(content, HEADER + SHUT)):
             return
         if content[:16] != HEADER:
@@ -135,7 +136,8 @@ class PlainFile:
             text = name.decode()
         except UnicodeDecodeError:
             raise Refused("the file is damaged") from None
-        self.names.pop(text, None)
+        known = self.names.pop(text, bytes(16).hex())
+        self.versions[text] = self.versions.get(text, 0) + (known != key or text not in self.versions)
         if key != bytes(16).hex():
             self.names[text] = key
 
@@ -145,13 +147,13 @@ class PlainFile:
         return [body[at : at + 16].hex() for at in range(0, 16 * children, 16)]
 
     def listed(self):
-        """The lines of `list`, in order."""
+        """The lines of `ls --all`, in order."""
         return sorted(f"{key} {len(body) - 16 * children} bytes, {children} children"
                       for key, (children, body) in self.blobs.items())
 
     def roots(self):
-        """The lines of `roots`, in order."""
-        return sorted(f"{name} {key}" for name, key in self.names.items())
+        """The lines of `ls`, in order."""
+        return sorted(f"{name} {key} {self.versions[name]} versions" for name, key in self.names.items())
 
     def reached(self, key):
         """The keys that a key reaches."""

@@ -269,11 +269,11 @@ def without(events, number):
 def opened(program, file, content, wanted):
     """What is wrong where the program looks at such a file, opens it to write, and looks again; or None."""
     file.write_bytes(content)
-    for word in ("list", "flush", "list"):
-        done = run(program, file, word)
-        if word == "list" and sorted(done.stdout.splitlines()) != wanted.listed() or done.returncode:
-            return f"'{word}': {done.stdout[-200:]}{done.stderr[-200:]}"
-    test = run(program, file, "roots").stdout.splitlines()
+    for words in (["ls", "--all"], ["serve"], ["ls", "--all"]):
+        done = run(program, file, *words)
+        if words[0] == "ls" and done.stdout.splitlines() != wanted.listed() or done.returncode:
+            return f"'{words[0]}': {done.stdout[-200:]}{done.stderr[-200:]}"
+    test = run(program, file, "ls").stdout.splitlines()
     return None if sorted(test) == wanted.roots() else f"roots: {test}"
 
 
@@ -294,7 +294,7 @@ def flushes_of(program, folder):
     first, rest = lines.split("flush\n")[0] + "flush\n", "flush\n".join(lines.split("flush\n")[1:])
     below = f"root side {roots[0]}\nput 00 {roots[-1]}\nput ff\nflush\ndrop side\nput {'ab' * 5000}\nflush\n"
     for text in (first, rest, below):
-        trace.read(traced(program, folder, [file], text))
+        trace.read(traced(program, folder, [file, "serve"], text))
     return file, trace
 
 
@@ -303,7 +303,7 @@ def garbage_of(program, folder):
     file, trace = folder / "collected.blobs", Trace(str(folder))
     lines, _ = chain(6, 300, 6)
     more = f"put {'cd' * 700}\n{lines}put 01\nroot one {key_of(bytes([1]))}\nflush\n"
-    trace.read(traced(program, folder, [file], more))
+    trace.read(traced(program, folder, [file, "serve"], more))
     trace.read(traced(program, folder, [file, "gc"], ""))
     return file, trace
 

@@ -4,9 +4,9 @@ import os
 import struct
 import subprocess
 
-from asking import DRAWN, key_of, removed, run
+from asking import DRAWN, key_of, removed, serve
 from plain_file import PlainFile, Refused
-from plain_lines import PlainLines
+from plain_tool import PlainTool
 
 # What may be said of a call that is refused, behind the file's name or as a line's answer.
 MEMORY = "out of memory: release what can go, and call again"
@@ -27,7 +27,7 @@ def refused_run(program, file, text, preload, place, counts, word):
     """A run of which a call is refused, and how many calls there were."""
     counts.write_bytes(bytes(64))
     named = {"LD_PRELOAD": str(preload), word: str(place), "COUNTS": str(counts), "CALLS": str(counts)}
-    done = run(program, file, text=text, env={**os.environ, **named})
+    done = serve(program, file, text, env={**os.environ, **named})
     return done, struct.unpack("<Q", counts.read_bytes()[:8])[0]
 
 
@@ -48,25 +48,33 @@ def plain_state(file):
     return plain.blobs, plain.names
 
 
-def snapshot(lines):
+def tool_over(content):
+    """The plain tool over a file with this content."""
+    plain, tool = PlainFile(content), PlainTool()
+    tool.blobs = {key: (body[16 * count :], plain.children(key)) for key, (count, body) in plain.blobs.items()}
+    tool.versions = {name: [key] for name, key in plain.names.items()}
+    return tool
+
+
+def snapshot(tool):
     """What a file shows, as plain_state has it."""
-    return dict(lines.plain.blobs), dict(lines.plain.names)
+    body = lambda data, children: (len(children), bytes.fromhex("".join(children)) + data)
+    return {key: body(*blob) for key, blob in tool.blobs.items()}, tool.names
 
 
 def allowed_behind(start, asked, answers, is_cut):
     """What a file with this content at first may show behind a run: what was there at the last answered flush, or at a
     later one that failed; or what is wrong with an answer."""
-    lines = PlainLines()
-    lines.plain = PlainFile(start)
-    allowed = [snapshot(lines)]
+    tool = tool_over(start)
+    allowed = [snapshot(tool)]
     for line, answer in zip(asked, answers):
         if answer.startswith("error: "):
-            allowed += [snapshot(lines)] if line == "flush" else []
+            allowed += [snapshot(tool)] if line == "flush" else []
             continue
-        if lines.answer(line) != [answer]:
+        if tool.answer(line) != f"{answer}\n":
             return None, f"'{line}' is answered '{answer}'"
-        allowed = [snapshot(lines)] if line == "flush" else allowed
-    return allowed + ([snapshot(lines)] if is_cut else []), None
+        allowed = [snapshot(tool)] if line == "flush" else allowed
+    return allowed + ([snapshot(tool)] if is_cut else []), None
 
 
 def checked(program, file, start, asked, done, whole):
@@ -82,7 +90,7 @@ def checked(program, file, start, asked, done, whole):
         return fault
     if plain_state(file) not in allowed:
         return f"the file shows {plain_state(file)}"
-    again = run(program, file, text="\n".join(asked) + "\n")
+    again = serve(program, file, "\n".join(asked) + "\n")
     if again.returncode or again.stderr or plain_state(file) != whole:
         return f"the next run: {again.stdout[-200:]}{again.stderr}"
     return None
@@ -103,7 +111,7 @@ def sweep(program, folder, preload, word, start, asked):
     file, counts, causes, place = folder / f"{word}.blobs", folder / "counts", {}, 0
     text = "\n".join(asked) + "\n"
     file.write_bytes(start)
-    run(program, file, text=text)
+    serve(program, file, text)
     whole = plain_state(file)
     while True:
         place += 1
@@ -122,7 +130,7 @@ def both_sweeps(program, folder, preload, word):
     """The same on a file that is empty at first, and on one that has some of the blobs."""
     asked, file = asked_lines(), removed(folder / "start.blobs")
     half = asked.index("flush") + 1
-    run(program, file, text="\n".join(asked[:half]) + "\n")
+    serve(program, file, "\n".join(asked[:half]) + "\n")
     count, causes = 0, {}
     for start, lines in ((b"", asked), (file.read_bytes(), asked[half:])):
         more, met, fault = sweep(program, folder, preload, word, start, lines)

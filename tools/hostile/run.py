@@ -3,7 +3,7 @@
 
     tools/hostile/run.py [--rows ROWS] [--pagectl PAGECTL] [--blobctl BLOBCTL]
 
-ROWS is the built program that answers rows of values; docs/PROOFS.md (Rows) and tools/speed/build.py say how programs
+ROWS is the built program that answers rows of values; docs/TESTS.md (Rows) and tools/speed/build.py say how programs
 are built. Each program is given what is meant for it, in a new folder. Each input has a bound of seconds. The status is
 1 if an answer is another than the page says, or comes later than its bound. All of it takes some 15 seconds.
 """
@@ -117,16 +117,13 @@ def one_hash(run, program, alone):
     run.tell("an ordered map of them", "as plain keys" if ordered < 0.5 else "slow", ordered, "as plain keys", 1)
 
 
-def lines(run, words, is_bounded):
-    """Lines for a program: long ones, and bytes that aren't text."""
-    for what, line in [("65,537 bytes", b"x" * 65_537), ("10 MB", b"x" * 10_000_000), ("no text", b"\xff\xfe\0\x1b")]:
-        said, _, status, seconds = run.ask(words, line + b"\n", 10)
-        name = pathlib.Path(words[0]).name
-        run.tell(f"{name}: a line of {what}", f"{said.decode()}{status}", seconds, "bad line\n0", 5)
-    if not is_bounded:
-        # (a line is held whole, in a buffer that doubles)
-        said, fault, status, seconds = run.ask(words, b"x" * 100 * MIB + b"\n", 10, 96 * MIB)
-        run.tell("a line above the memory that is there", f"{said.decode()}{status}", seconds, "1", 5)
+def lines(run, words, too_long="bad line"):
+    """Lines for a program: long ones, also above the memory that is there, and bytes that aren't text."""
+    name = pathlib.Path(words[0]).name
+    for what, line in [("65,537 bytes", b"x" * 65_537), ("100 MiB", b"x" * 100 * MIB), ("no text", b"\xff\xfe\0\x1b")]:
+        said, _, status, seconds = run.ask(words, line + b"\n", 10, 96 * MIB)
+        wanted = "bad line" if what == "no text" else too_long
+        run.tell(f"{name}: a line of {what}", f"{said.decode()}{status}", seconds, f"{wanted}\n0", 5)
 
 
 def texts(run, program):
@@ -138,21 +135,35 @@ def texts(run, program):
 def names(run, program):
     """What `blobctl` shows of a name that has escapes, line feeds and marks that turn the direction of a line."""
     key = hashlib.sha256(bytes(9)).digest()[:16].hex()
-    asked = f"put 00\nroot \x1b[31mred\x07\u202ex\x9b {key}\nroots\n"
-    said, _, status, seconds = run.ask([program, "names.blobs"], asked.encode())
+    asked = f"put 00\nroot \x1b[31mred\x07\u202ex\x9b {key}\nls\n"
+    said, _, status, seconds = run.ask([program, "names.blobs", "serve"], asked.encode())
     raw = [byte for byte in said if byte < 32 and byte != 10] + re.findall(rb"\xe2\x80\xae|\xc2\x9b", said)
     shown = said.decode(errors="replace")
-    is_shown = shown.endswith(rf"\u{{1b}}[31mred\u{{7}}\u{{202e}}x\u{{9b}} {key}" + "\n")
+    is_shown = shown.endswith(rf"\u{{1b}}[31mred\u{{7}}\u{{202e}}x\u{{9b}} {key} 1 versions" + "\n")
     came = f"{len(raw)} raw, {'escaped' if is_shown else shown} {status}"
     run.tell("blobctl: escapes in a name", came, seconds, "0 raw, escaped 0", 5)
 
 
 def children(run, program):
     """A blob of 200,000 children, none of which is there."""
-    line = b"put 00" + b" 00112233445566778899aabbccddeeff" * 200_000
-    said, _, status, seconds = run.ask([program, "wide.blobs"], line + b"\nflush\nfsck\n", 20)
+    wide = plain_file.blob(b"", ["00112233445566778899aabbccddeeff"] * 200_000)
+    (run.folder / "wide.blobs").write_bytes(plain_file.file_of(plain_file.batch([wide])))
+    said, _, status, seconds = run.ask([program, "wide.blobs", "fsck"], bound=20)
     came = f"{said.count(b'which is missing')} flaws, {said.decode().splitlines()[-1]}"
     run.tell("blobctl: 200,000 missing children", came, seconds, "200000 flaws, 1 blobs, 200000 flaws", 10)
+
+
+def deep(run, program):
+    """A chain of 20,000 blobs, of which `tree` shows each on a line of bounded length."""
+    chain, below = [], []
+    for number in range(20_000):
+        chain.append(plain_file.blob(str(number).encode(), below))
+        below = [chain[-1][0]]
+    (run.folder / "deep.blobs").write_bytes(plain_file.file_of(plain_file.batch(chain)))
+    said, _, status, seconds = run.ask([program, "deep.blobs", "tree", below[0]], bound=20)
+    shown = said.decode().splitlines()
+    came = f"{len(shown)} lines, {max(map(len, shown))} at most, {status}"
+    run.tell("blobctl: a tree of 20,000 levels", came, seconds, "20000 lines, 1[0-9][0-9] at most, 0", 10)
 
 
 def files(run, program):
@@ -169,12 +180,12 @@ def files(run, program):
     for name, wanted in {**irregular, **none_of_blobs, "ring": "the path's links don't come to an end"}.items():
         _, fault, status, seconds = run.ask([program, name, "stat"])
         came = f"{fault.decode().strip().rpartition(': ')[2]}, {status}"
-        run.tell(f"blobctl: {name}", came, seconds, f"{wanted}, 1", 5)
+        run.tell(f"blobctl: {name}", came, seconds, f"{wanted}, 3", 5)
 
 
 def made_files(run, program):
     """Files of blobs that are made on purpose: lengths that no file has, and rows that ask for what isn't there."""
-    key, head, damaged = "01" * 16, plain_file.HEADER + b"\1", ("", "blobctl: made.blobs: the file is damaged\n", 1)
+    key, head, damaged = "01" * 16, plain_file.HEADER + b"\1", ("", "blobctl: made.blobs: the file is damaged\n", 3)
     # The three words of a batch's head are there, and nothing of what they announce.
     cut = ("24 bytes behind the last flush say nothing\n0 blobs, 0 flaws\n", "", 0)
     with_rows = lambda rows: head + struct.pack("<QQQ", 0, len(rows), plain_file.sum_of(rows)) + rows
@@ -188,7 +199,7 @@ def made_files(run, program):
         ("2^32 - 2 child keys", with_rows(bytes.fromhex(key) + struct.pack("<II", 2**32 - 2, 0)), damaged),
         ("a name of 4 GiB", with_rows(bytes.fromhex(key) + struct.pack("<II", 2**32 - 1, 2**32 - 1)), damaged),
         ("1,000 names of one hash", names, (".*0 blobs, 1000 flaws\n", "", 1)),
-        ("19,999 empty bodies", many, (".*19999 blobs, 19999 flaws\n", "10000 blobs\n", 1)),
+        ("19,999 empty bodies", many, (".*19999 blobs, 19999 flaws\n", "", 1)),
     ]:
         (run.folder / "made.blobs").write_bytes(content)
         said, fault, status, seconds = run.ask([program, "made.blobs", "fsck"], limit=64 * MIB)
@@ -212,12 +223,12 @@ def main():
         if words.rows:
             rows(run, words.rows)
         if words.pagectl:
-            lines(run, [words.pagectl, "weigh"], True)
+            lines(run, [words.pagectl, "weigh"])
             texts(run, words.pagectl)
         if words.blobctl:
-            lines(run, [words.blobctl, "lines.blobs"], False)
-            lines(run, [words.blobctl, "texts", "texts.blobs"], True)
-            for each in (names, children, files, made_files):
+            lines(run, [words.blobctl, "lines.blobs", "serve"], "error: the line is longer than 65536 bytes")
+            lines(run, [words.blobctl, "texts", "texts.blobs"])
+            for each in (names, children, deep, files, made_files):
                 each(run, words.blobctl)
     sys.exit(f"{run.faults} inputs came to something else" if run.faults else 0)
 

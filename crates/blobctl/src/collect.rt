@@ -4,12 +4,18 @@
 //! to a file that was copied already, and wherever this is cut off, FILE is the old file or the new
 //! one, whole.
 
-use crate::answer::{Answer, copy_roots};
-use crate::blobs::BlobsInFile;
+ghost use Rattle.blobctl.specs.Kept.{Keeps};
+ghost use Rattle.std.specs.Prelude.{IsTrue, OnOk};
+
+use crate::blobs::{Blobs, BlobsInFile};
+use crate::copy::copy_roots;
+use crate::keep::{KeptVersion, copy_versions, list_kept};
 use crate::new_file::{make_file, remove, sync_folder};
+use crate::progress::ProgressPrinter;
 use crate::refusal::Refusal;
 use blob_host::{FileFacts, facts_at};
 use pagable_file::OpenError;
+use pagable_flavors::Error;
 use std::fs::{File, Permissions};
 use std::os::unix::fs::{PermissionsExt, fchown};
 use std::path::PathBuf;
@@ -43,26 +49,58 @@ fn find_facts(rt: &HostRuntime, path: &str) -> Result<FileFacts, Refusal> {
     }
 }
 
-/// Copies into the empty file at `new` what the roots reach, and gives it the access and the name of
-/// the file at `path`, which is open and of which these are the facts. Returns how many blobs are kept.
+/// Copies into an empty file what the roots and these versions reach, and makes the names stand for
+/// them. Returns how many blobs these are.
+fn copy_kept<B: Blobs>(
+    rt: &HostRuntime,
+    from: &mut B,
+    to: &mut B,
+    versions: &[KeptVersion],
+) -> Result<usize, Error>
+    ensures kept { IsTrue (B.view from.new).is_honest → IsTrue (B.view to.new).is_honest
+        → OnOk result (Keeps (B.view from.old) (B.view to.new) versions.now) }
+{
+    let mut progress = ProgressPrinter::new(rt);
+    copy_versions(rt.alloc(), from, to, versions, &mut progress)?;
+    let names = from.root_names(rt.alloc())?;
+    copy_roots(rt, from, to, names.as_slice())?;
+    Ok(to.list(rt.alloc())?.len())
+}
+
+/// Fills the empty file at `new` with what is kept, and gives it the access and the name of the file at
+/// `path`, which is open and of which these are the facts. Returns how many blobs are kept.
 fn fill_and_replace<B: BlobsInFile>(
     rt: &HostRuntime,
     blobs: &mut B,
     path: &str,
     facts: &FileFacts,
     new: &str,
+    keep: u64,
 ) -> Result<usize, Refusal> {
     // (it stays locked until the end)
     let mut to = B::open(rt, new)?;
-    let count = copy_roots(rt, blobs, &mut to)?;
+    let versions = list_kept(rt.alloc(), blobs, keep)?;
+    let count = copy_kept(rt, blobs, &mut to, versions.as_slice())?;
     give_access(rt, new, facts)?;
     fs::rename(rt, new, path)?;
     sync_folder(rt, path)?;
     Ok(count)
 }
 
-/// Drops all blobs that no root of the file at a path reaches, and says how many are kept. The path has
-/// no link in it, and `blobs` is that file, open to be written.
+/// Returns the path of a file without links.
+///
+/// # Errors
+///
+/// - `File` if nothing has the path, `System` if it can't be followed.
+pub fn real_path(rt: &HostRuntime, path: &str) -> Result<PathBuf, Refusal> {
+    if !fs::exists(rt, path)? {
+        return Err(Refusal::File(OpenError::Missing));
+    }
+    Ok(fs::canonicalize(rt, path)?)
+}
+
+/// Drops all blobs that none of so many last versions of a root of the file at a path reaches, and says
+/// how many are kept. The path has no link in it, and `blobs` is that file, open to be written.
 ///
 /// # Errors
 ///
@@ -72,13 +110,18 @@ fn fill_and_replace<B: BlobsInFile>(
 ///   can't be made, given FILE's access or moved: the file has what it had, and FILE.new is gone, or
 ///   the new one has its place.
 /// - `Blobs` with `OutOfMemory` also if the answer can't get memory: the file is replaced then.
-pub fn collect_garbage<B: BlobsInFile>(rt: &HostRuntime, path: &PathBuf, blobs: &mut B) -> Answer {
+pub fn collect_garbage<B: BlobsInFile>(
+    rt: &HostRuntime,
+    path: &PathBuf,
+    blobs: &mut B,
+    keep: u64,
+) -> Result<String, Refusal> {
     let path = path.as_str();
     let facts = find_facts(rt, path)?;
     let new = format!(in rt.alloc(); "{path}.new")?;
     make_file(rt, new.as_str(), 0o600)?;
-    match fill_and_replace(rt, blobs, path, &facts, new.as_str()) {
-        Ok(count) => Ok((format!(in rt.alloc(); "{count} blobs kept\n")?, true)),
+    match fill_and_replace(rt, blobs, path, &facts, new.as_str(), keep) {
+        Ok(count) => Ok(format!(in rt.alloc(); "{count} blobs kept\n")?),
         Err(refusal) => {
             let _removed = remove(rt, new.as_str());
             Err(refusal)

@@ -1,89 +1,102 @@
-//! Commands, and how lines spell them.
+//! The commands on a file of blobs.
 
-use crate::refusal::Refusal;
-use pagable_flavors::DataKey;
-
-/// What a line asks of a file of blobs, by its first word.
+/// What `ls` lists.
 #[derive(Clone, Copy)]
-pub enum Verb {
-    /// `stat`: counts of the blobs, their bytes, and the names.
-    Stat,
-    /// `list`: all blobs.
-    List,
-    /// `roots`: the names, with the keys that they stand for.
+pub enum Listing<'a> {
+    /// The names that stand for keys.
     Roots,
-    /// `tree KEY`: what a key reaches.
-    Tree,
-    /// `dot KEY`: what a key reaches, as a graph in the language of Graphviz.
-    Dot,
-    /// `fsck`: what is wrong with the file. `fsck NAME`: with what the root of a name reaches.
-    Fsck,
-    /// `copy FILE`: copies into FILE what the roots reach.
-    Copy,
-    /// `export-db FILE`: writes a database that SQLite reads.
-    ExportDb,
-    /// `gc`: drops what no root reaches.
-    Gc,
-    /// `put HEX KEY..`: stores a blob of these bytes and child keys.
-    Put,
-    /// `root NAME KEY`: makes a name stand for a key.
-    Root,
-    /// `drop NAME`: makes a name stand for none.
-    Drop,
-    /// `flush`: commits what was stored and set.
+    /// All blobs.
+    Blobs,
+    /// The children of the blob that a word names.
+    Children(&'a str),
+}
+
+/// A command that shows what a file has, and writes no byte to it. A `&str` that names a blob is
+/// a key, its first digits, a root's name, or as `main~2` a version of it.
+#[derive(Drop)]
+pub enum Look<'a> {
+    /// `ls`: lists roots or blobs.
+    List(Listing<'a>),
+    /// `log`: lists the versions of the root of this name.
+    Log(&'a str),
+    /// `cat`: writes the bytes of a blob.
+    Cat(&'a str),
+    /// `tree`: shows what a blob reaches, below each blob its children.
+    Tree(&'a str),
+    /// `dot`: shows what a blob reaches as a graph in the language of Graphviz.
+    Dot(&'a str),
+    /// `stat`: counts the blobs, their bytes, and the names.
+    Stat,
+    /// `fsck`: tests the whole file, or what the root of a name reaches.
+    Fsck(Option<&'a str>),
+    /// `copy`: copies into the file of a path what the roots of these names reach, or of all.
+    Copy(&'a str, Vec<&'a str>),
+    /// `cache get`: finds the entry of a digest, and writes its content to the file of a path, or to
+    /// standard output.
+    CacheGet(&'a str, Option<&'a str>),
+    /// `cache stat`: counts the entries of the cache.
+    CacheStat,
+    /// `export-db`: writes a database that SQLite reads, at a path.
+    ExportDb(&'a str),
+}
+
+/// Where `put` finds the bytes of a blob.
+#[derive(Clone, Copy)]
+pub enum Source<'a> {
+    /// In standard input.
+    Input,
+    /// In the file of a path.
+    Path(&'a str),
+    /// In the word itself, two hex digits a byte, or `-` for none.
+    Hex(&'a str),
+}
+
+/// A command that stores a blob or sets a name.
+#[derive(Drop)]
+pub enum Change<'a> {
+    /// `put`: stores a blob of these bytes and children.
+    Put(Source<'a>, Vec<&'a str>),
+    /// `root`: makes a name stand for a blob's key.
+    SetRoot(&'a str, &'a str),
+    /// `drop`: makes a name stand for no key.
+    DropRoot(&'a str),
+}
+
+/// A command that changes the cache, and waits for other writers.
+#[derive(Clone, Copy)]
+pub enum CacheChange<'a> {
+    /// `cache put`: puts an entry of these bytes and this status under a digest.
+    Put(&'a str, Source<'a>, u32),
+    /// `cache trim`: drops the oldest entries, down to a size.
+    Trim(&'a str),
+}
+
+/// What the program's arguments ask of a file.
+#[derive(Drop)]
+pub enum Command<'a> {
+    /// Show what the file has.
+    Look(Look<'a>),
+    /// Change the file, and commit that.
+    Change(Change<'a>),
+    /// Change the cache, after waiting so many seconds at most for other writers.
+    ChangeCache(CacheChange<'a>, u64),
+    /// `gc`: drop what none of so many last versions of a root reaches.
+    Collect(u64),
+    /// `import-old`: make the file of the database at a path.
+    ImportOld(&'a str),
+    /// `serve`: answer the lines of the input.
+    Serve,
+    /// `texts`: answer lines about texts.
+    Texts,
+}
+
+/// What a line of the input asks.
+#[derive(Drop)]
+pub enum LineCommand<'a> {
+    /// Show what the file has, and what waits for a flush.
+    Look(Look<'a>),
+    /// Change what waits for a flush.
+    Change(Change<'a>),
+    /// `flush`: commit what was stored and set.
     Flush,
-}
-
-impl Verb {
-    /// Returns whether the command changes the file, and so makes it if there is none.
-    pub fn stores_or_sets(self) -> bool {
-        matches!(self, Verb::Put | Verb::Root | Verb::Drop | Verb::Flush)
-    }
-}
-
-/// Reads a key from a word.
-///
-/// # Errors
-///
-/// - `BadLine` if the word is none.
-pub fn key_of(word: &str) -> Result<DataKey, Refusal> {
-    word.parse().map_err(|_| Refusal::BadLine)
-}
-
-/// Reads the verb of a line, and the words after it. Returns None for a line that is no command. One
-/// space separates words.
-pub fn parse(line: &str) -> Option<(Verb, &str)> {
-    let words = line.trim_end();
-    match words.split_once(' ') {
-        Some((word, rest)) => Some((verb_before_words(word)?, rest)),
-        None => Some((verb_alone(words)?, "")),
-    }
-}
-
-/// Returns the verb that a word spells if it is the whole line, or None.
-fn verb_alone(word: &str) -> Option<Verb> {
-    match word {
-        "stat" => Some(Verb::Stat),
-        "list" => Some(Verb::List),
-        "roots" => Some(Verb::Roots),
-        "fsck" => Some(Verb::Fsck),
-        "gc" => Some(Verb::Gc),
-        "flush" => Some(Verb::Flush),
-        _ => None,
-    }
-}
-
-/// Returns the verb that a word spells if other words follow it, or None.
-fn verb_before_words(word: &str) -> Option<Verb> {
-    match word {
-        "tree" => Some(Verb::Tree),
-        "dot" => Some(Verb::Dot),
-        "fsck" => Some(Verb::Fsck),
-        "copy" => Some(Verb::Copy),
-        "export-db" => Some(Verb::ExportDb),
-        "put" => Some(Verb::Put),
-        "root" => Some(Verb::Root),
-        "drop" => Some(Verb::Drop),
-        _ => None,
-    }
 }

@@ -1,5 +1,7 @@
 //! Writes all blobs and names as a database that SQLite reads.
 
+ghost use Rattle.blobctl.specs.Shown.{Stays};
+
 use crate::blobs::Blobs;
 use crate::new_file::{make_file, remove};
 use crate::progress::ProgressPrinter;
@@ -60,7 +62,9 @@ fn add_batch<B: Blobs, S: Alter, W: Watch>(
     to: &mut Connection<S>,
     batch: &[ListedBlob],
     watch: &mut W,
-) -> Result<(), Refusal> {
+) -> Result<(), Refusal>
+    ensures stays { Stays (B.view from.old) (B.view from.new) }
+{
     run(to, "BEGIN")?;
     for listed in batch {
         let blob = from.fetch(alloc, listed.key)?;
@@ -77,7 +81,9 @@ fn add_blobs<B: Blobs, S: Alter, W: Watch>(
     from: &mut B,
     to: &mut Connection<S>,
     watch: &mut W,
-) -> Result<usize, Refusal> {
+) -> Result<usize, Refusal>
+    ensures stays { Stays (B.view from.old) (B.view from.new) }
+{
     let mut all = from.list(alloc)?;
     all.sort_by_key(|blob| blob.key.get().swap_bytes())?;
     for batch in all.chunks(BATCH) {
@@ -91,7 +97,9 @@ fn add_roots<B: Blobs, S: Alter>(
     alloc: Global,
     from: &mut B,
     to: &mut Connection<S>,
-) -> Result<u64, Refusal> {
+) -> Result<u64, Refusal>
+    ensures stays { Stays (B.view from.old) (B.view from.new) }
+{
     let mut count: u64 = 0;
     run(to, "BEGIN")?;
     for name in &from.root_names(alloc)? {
@@ -105,7 +113,9 @@ fn add_roots<B: Blobs, S: Alter>(
 }
 
 /// Makes a database of an empty file, with all blobs and names, and says how many these are.
-fn fill<B: Blobs>(rt: &HostRuntime, from: &mut B, path: &str) -> Result<String, Refusal> {
+fn fill<B: Blobs>(rt: &HostRuntime, from: &mut B, path: &str) -> Result<String, Refusal>
+    ensures stays { Stays (B.view from.old) (B.view from.new) }
+{
     let mut to = Connection::open(rt, path)?;
     run(&mut to, TABLES)?;
     let blobs = add_blobs(rt.alloc(), from, &mut to, &mut ProgressPrinter::new(rt))?;
@@ -137,7 +147,9 @@ pub fn export_database<B: Blobs>(
     rt: &HostRuntime,
     from: &mut B,
     path: &str,
-) -> Result<String, Refusal> {
+) -> Result<String, Refusal>
+    ensures stays { Stays (B.view from.old) (B.view from.new) }
+{
     let log = format!(in rt.alloc(); "{path}-wal")?;
     refuse_taken(rt, log.as_str())?;
     make_file(rt, path, 0o666)?;

@@ -1,6 +1,5 @@
 //! Reads a database of blobs and names once into a new file.
 
-use crate::answer::Answer;
 use crate::blobs::{Blobs, BlobsInFile};
 use crate::new_file::{make_file, remove};
 use crate::progress::ProgressPrinter;
@@ -109,7 +108,7 @@ fn set_names<B: Blobs, S: Alter>(
 }
 
 /// Stores all blobs and names of a database in an empty file, and says how many these are.
-fn fill<B: BlobsInFile>(rt: &HostRuntime, old: &str, path: &str) -> Answer {
+fn fill<B: BlobsInFile>(rt: &HostRuntime, old: &str, path: &str) -> Result<String, Refusal> {
     let mut from = Connection::open(rt, old)?;
     let mut to = B::open(rt, path)?;
     let mut progress = ProgressPrinter::new(rt);
@@ -117,10 +116,7 @@ fn fill<B: BlobsInFile>(rt: &HostRuntime, old: &str, path: &str) -> Answer {
     let names = set_names(rt.alloc(), &mut from, &mut to)?;
     to.flush()?;
     from.close()?;
-    Ok((
-        format!(in rt.alloc(); "{blobs} blobs, {names} names imported\n")?,
-        true,
-    ))
+    Ok(format!(in rt.alloc(); "{blobs} blobs, {names} names imported\n")?)
 }
 
 /// Reads all blobs and names of the database at `old` into a new file at `path`, and says how many these
@@ -131,15 +127,19 @@ fn fill<B: BlobsInFile>(rt: &HostRuntime, old: &str, path: &str) -> Answer {
 ///
 /// The new file isn't left, and the database has what it had.
 ///
-/// - `File` if there is no database, or the new file can't be opened.
+/// - `OtherFile` if there is no database, `File` if the new file can't be opened.
 /// - `Taken` if something has the path of the new file.
 /// - `Database` if the database can't be opened or read, or has no such tables.
 /// - `OddRow` if a row is no blob's or no name's, `OtherKey` if a blob has another key than its row.
 /// - `Blobs` if a call on the new file fails, or a name stands for a blob that isn't there.
 /// - `System` if the new file can't be made.
-pub fn import_database<B: BlobsInFile>(rt: &HostRuntime, old: &str, path: &str) -> Answer {
+pub fn import_database<B: BlobsInFile>(
+    rt: &HostRuntime,
+    old: &str,
+    path: &str,
+) -> Result<String, Refusal> {
     if !fs::exists(rt, old)? {
-        return Err(Refusal::File(OpenError::Missing));
+        return Err(Refusal::OtherFile(String::from_str(rt.alloc(), old)?, OpenError::Missing));
     }
     let log = format!(in rt.alloc(); "{old}-wal")?;
     let had_log = fs::exists(rt, log.as_str())?;

@@ -1,114 +1,155 @@
-//! `blobctl FILE COMMAND..` shows or changes a file of blobs whose keys SHA-256 makes; `blobctl FILE`
-//! takes one command from each line of its input. `blobctl texts FILE` answers lines about texts that
-//! the file keeps under names. `blobctl import-old OLD FILE` makes FILE of a database of blobs.
+//! `blobctl FILE COMMAND..` shows or changes a file of blobs with named roots, whose keys SHA-256 makes.
+//! `blobctl FILE serve` answers a command on each line of its input. `blobctl texts FILE` answers lines
+//! about texts that the file keeps under names. `blobctl help` lists the commands.
 //!
-//! A key is shown as the first 32 hex digits of its hash. Each command is answered by lines; one that
-//! fails is answered by one line, `bad line` or one that begins with `error`.
+//! What a command shows stands on standard output, and why it fails on standard error, behind the
+//! file's path. The status is 0, 1 for a flaw or what isn't there, 2 for a wrong call, 3 if a file fails.
 #![tactic(auto)]
 
-mod answer;
+mod arguments;
 mod blobs;
+mod cache;
+mod cache_change;
+mod change;
 mod collect;
 mod command;
+mod copy;
+mod entry;
 mod export;
+mod find;
+mod graph;
 mod import;
+mod keep;
+mod line;
+mod listing;
 mod look;
 mod new_file;
 mod progress;
 mod reach;
 mod refusal;
+mod run;
 mod serve;
-mod show;
 mod texts;
+mod tree;
+mod usage;
+mod versions;
 
-use crate::command::parse;
-use crate::serve::{serve, serve_import};
+use crate::arguments::{Request, parse};
+use crate::command::Command;
+use crate::entry::read_entry;
+use crate::look::Answer;
+use crate::new_file::write_file;
+use crate::refusal::Refusal;
+use crate::run::run;
+use crate::serve::print;
 use crate::texts::serve_texts;
+use clap::error::ErrorKind;
 use pagable_core::Sha256Key;
 use pagable_file::{BlobEnv, FileOfBlobs};
+use std::io::Write;
 use std::process::ExitCode;
 use std::sync::Wait;
 use std::{env, io};
 
-const USAGE: &str =
-    "usage: blobctl FILE [stat | list | roots | tree KEY | dot KEY | fsck [NAME] | copy FILE | export-db DB | gc \
-    | put HEX [KEY..] | root NAME KEY | drop NAME | flush]\n       blobctl texts FILE\n       \
-    blobctl import-old OLD FILE";
-
 /// A file of blobs of any kind, with keys by SHA-256.
 type AnyBlobs = FileOfBlobs<BlobEnv<Sha256Key>>;
 
-/// Returns the words after the program's name.
-fn words(rt: &HostRuntime) -> io::Result<Vec<String>> {
-    let mut words = Vec::new(rt.alloc());
-    for word in env::args(rt)?.skip(1) {
-        words.push(word)?;
-    }
-    Ok(words)
+/// Prints bytes on standard output.
+fn print_bytes(rt: &HostRuntime, bytes: &[u8]) -> Result<(), Refusal> {
+    let mut output = io::writer(rt);
+    output.write_all(bytes).map_err(Refusal::Output)
 }
 
-/// Joins words to a line, with a space between two of them.
-fn line_of(rt: &HostRuntime, words: &[String]) -> io::Result<String> {
-    let mut line = String::new(rt.alloc());
-    for word in words {
-        if !line.is_empty() {
-            line.push_str(" ")?;
+/// Writes the content of an entry of the cache to the file of a path, or prints it. Tells the status that
+/// is kept with it on standard error, unless that is 0.
+fn write_out(rt: &HostRuntime, bytes: &[u8], path: Option<String>) -> Result<(), Refusal> {
+    let Some((facts, content)) = read_entry(bytes) else {
+        return Err(Refusal::Miss);
+    };
+    match path {
+        Some(path) => write_file(rt, path.as_str(), content)?,
+        None => print_bytes(rt, content)?,
+    }
+    if facts.status != 0 {
+        let _shown = eprintln!(rt; "blobctl: kept status {}", facts.status);
+    }
+    Ok(())
+}
+
+/// Prints what a command answers, and returns the status: 1 if it names a flaw.
+fn print_answer(rt: &HostRuntime, answer: Answer) -> Result<u8, Refusal> {
+    match answer {
+        Answer::Lines(text) => {
+            print(rt, text.as_str())?;
+            Ok(0)
         }
-        line.push_str(word.as_str())?;
+        Answer::Flaws(text) => {
+            print(rt, text.as_str())?;
+            Ok(1)
+        }
+        Answer::Blob(blob) => {
+            print_bytes(rt, blob.bytes.as_slice())?;
+            Ok(0)
+        }
+        Answer::Entry(blob, path) => {
+            write_out(rt, blob.bytes.as_slice(), path)?;
+            Ok(0)
+        }
     }
-    Ok(line)
 }
 
-/// Serves the command of these words over the file of a path, or that of its input if there is no word.
-/// Returns false if that fails or finds a flaw, and None if the words are no command.
-fn serve_words(rt: &HostRuntime, path: &str, words: &[String]) -> io::Result<Option<bool>> {
-    let line = line_of(rt, words)?;
-    if !words.is_empty() && parse(line.as_str()).is_none() {
-        return Ok(None);
-    }
-    Ok(Some(serve::<AnyBlobs>(rt, path, line.as_str())?))
-}
-
-/// Serves what the words after the program's name ask for. Returns false if that fails or finds a
-/// flaw, and None if the words are none of the usage.
-fn answer_words<W: Wait>(
+/// Serves a request, and returns the status of a success.
+fn serve_request<W: Wait>(
     rt: &HostRuntime,
     waits: &W,
-    words: &[String],
-) -> io::Result<Option<bool>> {
-    let Some((first, rest)) = words.split_first() else {
-        return Ok(None);
-    };
-    match (first.as_str(), rest) {
-        ("texts", [file]) => Ok(Some(serve_texts(rt, waits, file.as_str())?)),
-        ("import-old", [old, file]) => {
-            Ok(Some(serve_import::<AnyBlobs>(rt, old.as_str(), file.as_str())?))
+    request: Request<'_>,
+) -> Result<u8, Refusal> {
+    match request.command {
+        Command::Texts => {
+            serve_texts(rt, waits, request.path)?;
+            Ok(0)
         }
-        ("texts" | "import-old", _) => Ok(None),
-        (path, _) if path.starts_with("-") => Ok(None),
-        (path, rest) => serve_words(rt, path, rest),
+        command => print_answer(rt, run::<AnyBlobs>(rt, request.path, command)?),
     }
 }
 
-/// Serves what the program's arguments ask for, and returns the exit status: 0; 1 if the command
-/// fails or finds a flaw; 2, after printing the usage, if the arguments are none of the usage.
-fn status<W: Wait>(rt: &HostRuntime, waits: &W) -> io::Result<ExitCode> {
-    match answer_words(rt, waits, words(rt)?.as_slice())? {
-        Some(true) => Ok(ExitCode::SUCCESS),
-        Some(false) => Ok(ExitCode::FAILURE),
-        None => {
-            eprintln!(rt; "{USAGE}")?;
-            Ok(ExitCode::from(2))
+/// Tells why a command over the file of a path fails, unless that is nobody's fault, and returns the
+/// status.
+fn tell(rt: &HostRuntime, path: &str, refusal: &Refusal) -> u8 {
+    if refusal.is_broken_pipe() {
+        return 0;
+    }
+    let _shown = eprintln!(rt; "blobctl: {}: {refusal}", path.escape_debug());
+    refusal.status()
+}
+
+/// Serves what the program's arguments ask for, and returns the status.
+fn serve_arguments<W: Wait>(rt: &HostRuntime, waits: &W) -> io::Result<u8> {
+    let words: Vec<String> = env::args(rt)?.skip(1).collect(rt.alloc())?;
+    match parse(rt.alloc(), words.as_slice()) {
+        Ok(request) => {
+            let path = request.path;
+            match serve_request(rt, waits, request) {
+                Ok(status) => Ok(status),
+                Err(refusal) => Ok(tell(rt, path, &refusal)),
+            }
+        }
+        Err(error) if error.kind() == ErrorKind::OutOfMemory => {
+            Err(io::Error::from(io::ErrorKind::OutOfMemory))
+        }
+        Err(error) => {
+            error.print(rt)?;
+            Ok(error.exit_code() as u8)
         }
     }
 }
 
 fn main(rt: HostRuntime) -> ExitCode {
-    match status(&rt, &rt) {
-        Ok(status) => status,
+    match serve_arguments(&rt, &rt) {
+        Ok(status) => ExitCode::from(status),
         Err(error) => {
             let _shown = eprintln!(rt; "blobctl: {error}");
-            ExitCode::FAILURE
+            ExitCode::from(3)
         }
     }
 }

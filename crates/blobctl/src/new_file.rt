@@ -4,6 +4,7 @@ use crate::refusal::Refusal;
 use std::fs::{File, OpenOptions};
 use std::os::unix::fs::OpenOptionsExt;
 use std::path::PathBuf;
+use std::time::{SystemTime, UNIX_EPOCH};
 use std::{fs, io};
 
 /// Makes an empty file at a path, with this mode but for what the process masks.
@@ -45,4 +46,42 @@ pub fn sync_folder(rt: &HostRuntime, path: &str) -> io::Result<()> {
     let mut folder = PathBuf::from_str(rt.alloc(), path)?;
     folder.pop();
     File::open(rt, folder.as_str())?.sync_all()
+}
+
+/// Returns the time in nanoseconds from 1970 on, or 0 if the clock stands before that.
+///
+/// # Errors
+///
+/// - an error of the system.
+pub fn nanoseconds_now(rt: &HostRuntime) -> io::Result<u64> {
+    match SystemTime::now(rt)?.duration_since(UNIX_EPOCH) {
+        Ok(since) => Ok(u64::try_from(since.as_nanos()).unwrap_or(u64::MAX)),
+        Err(_) => Ok(0),
+    }
+}
+
+/// Writes bytes to a file beside a path, called by the time, which then gets the path's name. A reader
+/// sees the old file or the whole new one.
+///
+/// # Errors
+///
+/// - `Taken` if something has the new file's name.
+/// - `System` if the file can't be made, written or moved: it isn't left, and the old one stays.
+pub fn write_file(rt: &HostRuntime, path: &str, bytes: &[u8]) -> Result<(), Refusal> {
+    let time = nanoseconds_now(rt)?;
+    let new = format!(in rt.alloc(); "{path}.{time}.new")?;
+    make_file(rt, new.as_str(), 0o666)?;
+    match fill_and_move(rt, new.as_str(), path, bytes) {
+        Ok(()) => Ok(()),
+        Err(error) => {
+            let _removed = remove(rt, new.as_str());
+            Err(Refusal::System(error))
+        }
+    }
+}
+
+/// Writes bytes to a file that is there, and gives it another name.
+fn fill_and_move(rt: &HostRuntime, new: &str, path: &str, bytes: &[u8]) -> io::Result<()> {
+    fs::write(rt, new, bytes)?;
+    fs::rename(rt, new, path)
 }

@@ -1,5 +1,7 @@
 //! A walk over all that a key reaches.
 
+ghost use Rattle.blobctl.specs.Shown.{Stays};
+
 use crate::blobs::Blobs;
 use pagable_file::ListedBlob;
 use pagable_flavors::{DataKey, Error};
@@ -25,12 +27,9 @@ struct Walk {
 
 /// Visits a key unless the walk has seen it: fetches its blob, notes the blob as reached, and
 /// plans to visit the children.
-fn visit<B: Blobs>(
-    alloc: Global,
-    blobs: &mut B,
-    walk: &mut Walk,
-    key: DataKey,
-) -> Result<(), Error> {
+fn visit<B: Blobs>(alloc: Global, blobs: &mut B, walk: &mut Walk, key: DataKey) -> Result<(), Error>
+    ensures stays { Stays (B.view blobs.old) (B.view blobs.new) }
+{
     if walk.seen.insert(key, ())?.is_some() {
         return Ok(());
     }
@@ -59,14 +58,16 @@ pub fn walk_from<B: Blobs>(
     alloc: Global,
     blobs: &mut B,
     key: DataKey,
-) -> Result<Vec<ReachedBlob>, Error> {
+) -> Result<Vec<ReachedBlob>, Error>
+    ensures stays { Stays (B.view blobs.old) (B.view blobs.new) }
+{
     let mut walk = Walk {
         seen: HashMap::new(alloc),
         to_visit: Vec::new(alloc),
         found: Vec::new(alloc),
     };
     walk.to_visit.push(key)?;
-    for _ in 0..u64::MAX {
+    'keys: for _ in 0..u64::MAX {
         let Some(next) = walk.to_visit.pop() else {
             break;
         };

@@ -1,6 +1,6 @@
-//! Why a command fails.
+//! Why a command fails, and the status that it ends with.
 
-use pagable_file::{Fault, OpenError};
+use pagable_file::{Fault, ListedBlob, OpenError};
 use pagable_flavors::{DataKey, Error};
 use sqlite::Error as SqlError;
 use std::alloc::{AllocError, AllocFailed};
@@ -9,18 +9,34 @@ use std::{fmt, io};
 /// Why a command fails.
 #[derive(Drop)]
 pub enum Refusal {
-    /// The line is no command, or its words are wrong.
-    BadLine,
-    /// `gc` came as a line of the input.
-    GcAmongLines,
-    /// No root has this name.
-    NoSuchRoot(String),
+    /// The word names no blob.
+    Unknown(String),
+    /// The word is the beginning of the keys of these blobs.
+    Ambiguous(String, Vec<ListedBlob>),
+    /// The name stands for no key.
+    NoRoot(String),
+    /// A root's name is empty.
+    EmptyName,
+    /// The word isn't hex, two digits a byte.
+    BadHex,
+    /// A digest isn't 1 to 128 hex digits.
+    BadDigest,
+    /// A size isn't a number of bytes, KiB, MiB or GiB.
+    BadSize,
+    /// The cache has no entry of the digest.
+    Miss,
     /// A call on the blobs failed.
     Blobs(Error),
-    /// A file couldn't be opened.
+    /// The file couldn't be opened.
     File(OpenError),
+    /// Another file, of this path, couldn't be opened.
+    OtherFile(String, OpenError),
     /// A file couldn't be made, moved or removed.
     System(io::Error),
+    /// A file of this path couldn't be read.
+    Input(String, io::Error),
+    /// Standard output couldn't be written.
+    Output(io::Error),
     /// A file has this path already, where a new one is to be made.
     Taken(String),
     /// The file has so many names, and only one of them could name the new file.
@@ -31,6 +47,29 @@ pub enum Refusal {
     OddRow,
     /// A database has another blob under a key.
     OtherKey(DataKey),
+}
+
+impl Refusal {
+    /// Returns the exit status: 1 if something isn't there, 2 for a wrong call, 3 if a file fails.
+    pub fn status(&self) -> u8 {
+        match self {
+            Refusal::Unknown(_)
+            | Refusal::Ambiguous(_, _)
+            | Refusal::NoRoot(_)
+            | Refusal::Miss
+            | Refusal::Blobs(Error::NoData(_)) => 1,
+            Refusal::EmptyName | Refusal::BadHex | Refusal::BadDigest | Refusal::BadSize => 2,
+            _ => 3,
+        }
+    }
+
+    /// Returns whether the reader of the output has gone away, which is nobody's fault.
+    pub fn is_broken_pipe(&self) -> bool {
+        match self {
+            Refusal::Output(error) => error.kind() == io::ErrorKind::BrokenPipe,
+            _ => false,
+        }
+    }
 }
 
 impl From<Error> for Refusal {
@@ -72,39 +111,61 @@ impl From<io::Error> for Refusal {
 impl fmt::Display for Refusal {
     fn fmt<W: fmt::Write>(&self, f: &mut fmt::Formatter<W>) -> fmt::Result {
         match self {
-            Refusal::BadLine => f.write_str("bad line"),
-            Refusal::GcAmongLines => {
-                f.write_str("error: gc is asked for behind the file's name alone")
+            Refusal::Unknown(word) => {
+                write!(f, "no root and no key is called {}", word.escape_debug())
             }
-            Refusal::NoSuchRoot(name) => {
-                write!(f, "error: no root is called {}", name.escape_debug())
+            Refusal::Ambiguous(word, found) => {
+                write_candidates(f, word.as_str(), found.as_slice())
             }
+            Refusal::NoRoot(name) => write!(f, "no root is called {}", name.escape_debug()),
+            Refusal::EmptyName => f.write_str("a root's name may not be empty"),
+            Refusal::BadHex => f.write_str("the bytes aren't spelled in hex"),
+            Refusal::BadDigest => f.write_str("a digest is 1 to 128 hex digits"),
+            Refusal::BadSize => f.write_str("a size is a number of bytes, or of K, M or G of them"),
+            Refusal::Miss => f.write_str("the cache has no such entry"),
             Refusal::Blobs(error) => write_error(f, error),
-            Refusal::File(error) => write!(f, "error: {error}"),
-            Refusal::System(error) => write!(f, "error: {error}"),
+            Refusal::File(error) => write!(f, "{error}"),
+            Refusal::OtherFile(path, error) => write!(f, "{}: {error}", path.escape_debug()),
+            Refusal::System(error) => write!(f, "{error}"),
+            Refusal::Input(path, error) => write!(f, "{}: {error}", path.escape_debug()),
+            Refusal::Output(error) => write!(f, "standard output: {error}"),
             Refusal::Taken(path) => write!(
                 f,
-                "error: {path} is there already: remove it, or give it another name"
+                "{} is there already: remove it, or give it another name",
+                path.escape_debug()
             ),
             Refusal::HasOtherNames(count) => write!(
                 f,
-                "error: the file has {count} names, and the others would keep the old file"
+                "the file has {count} names, and the others would keep the old file"
             ),
-            Refusal::Database(error) => write!(f, "error: the database: {error}"),
-            Refusal::OddRow => f.write_str("error: a row of the database is no blob's or name's"),
-            Refusal::OtherKey(key) => { write!(f, "error: the blob under {key} has another key") }
+            Refusal::Database(error) => write!(f, "the database: {error}"),
+            Refusal::OddRow => f.write_str("a row of the database is no blob's or name's"),
+            Refusal::OtherKey(key) => write!(f, "the blob under {key} has another key"),
         }
     }
+}
+
+/// Writes that a word is the beginning of several keys, and up to 16 of these.
+fn write_candidates<W: fmt::Write>(
+    f: &mut fmt::Formatter<W>,
+    word: &str,
+    found: &[ListedBlob],
+) -> fmt::Result {
+    write!(f, "{word} is the beginning of {} keys:", found.len())?;
+    for blob in found.iter().take(16) {
+        write!(f, " {}", blob.key)?;
+    }
+    Ok(())
 }
 
 /// Writes why a call on the blobs failed.
 fn write_error<W: fmt::Write>(f: &mut fmt::Formatter<W>, error: &Error) -> fmt::Result {
     match error {
-        Error::NoData(key) => write!(f, "error: no blob stands under {key}"),
+        Error::NoData(key) => write!(f, "no blob stands under {key}"),
         Error::Storage(code) => match Fault::of_code(*code) {
-            Some(fault) => write!(f, "error: {fault}"),
-            None => write!(f, "error: storage {code}"),
+            Some(fault) => write!(f, "{fault}"),
+            None => write!(f, "storage {code}"),
         },
-        other => write!(f, "error: {other}"),
+        other => write!(f, "{other}"),
     }
 }

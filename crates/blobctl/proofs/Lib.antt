@@ -1,0 +1,4 @@
+mod Caching
+mod Keeping
+mod Naming
+mod Showing

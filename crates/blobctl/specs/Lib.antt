@@ -1,0 +1,4 @@
+pub mod Digits
+pub mod Entries
+pub mod Kept
+pub mod Shown
