@@ -1,6 +1,6 @@
 #!/usr/bin/env python3
 """Builds the rows of tools/speed and the same rows on the original crate, times them in turn, and writes the table of
-docs/PROOFS.md and its pictures.
+docs/SPEED.md and its pictures.
 
     tools/compare_speed.py ORIGINAL WORK [--rounds N] [--instructions] [--rows ROW,..] [--print]
     tools/compare_speed.py --draw       # draws the pictures from the table that stands there

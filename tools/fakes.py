@@ -4,8 +4,8 @@ tries the tools on them.
 
     tools/fakes.py rows FAULT                              # the program of tools/failures
     tools/fakes.py texts FAULT weigh                       # `pagectl`
-    tools/fakes.py machine FAULT STORE LINES [PROGRAM]     # `heap_snapshot`
-    tools/fakes.py blobs FAULT FILE [COMMAND..]            # `blobctl`
+    tools/fakes.py blobs FAULT FILE COMMAND..              # `blobctl`
+    tools/fakes.py cached FAULT STORE cache COMMAND..      # the cache of `blobctl`
     tools/fakes.py hosted FAULT COMMAND PATH..             # the program of tools/host_files
     tools/fakes.py remote FAULT FOLDER COMMAND WORD..      # `remote`
 """
@@ -26,8 +26,6 @@ import plain_script  # noqa: E402
 import plain_values  # noqa: E402
 from driver import GIVING_BACK  # noqa: E402
 from plain_rows import Rows  # noqa: E402
-
-USAGE = "usage: heap_snapshot STORE LINES [PROGRAM]"
 
 
 class Program:
@@ -111,35 +109,6 @@ def texts(fault, _):
     return 0
 
 
-def refusal(store, words):
-    """Why a call of `heap_snapshot` fails, or None."""
-    if not store.parent.exists():
-        return f"opening {store}: there is no such folder"
-    if store.exists() and store.read_bytes()[:2] != b"\x80\x04":
-        return f"opening {store}: the file is none of blobs"
-    if words and not pathlib.Path(words[0]).exists():
-        return f"reading the program {words[0]}"
-    return None if words or store.exists() else f"{store} has no machine"
-
-
-def machine(fault, *words):
-    """Runs lines of a machine that stands in a file."""
-    if len(words) not in (2, 3) or not words[1].isdigit():
-        print(USAGE, file=sys.stderr)
-        return 2
-    store, most, *program = words
-    store = pathlib.Path(store)
-    if why := refusal(store, program):
-        print(why, file=sys.stderr)
-        return 1
-    state = models.Machine(pathlib.Path(*program).read_text()) if program else pickle.loads(store.read_bytes())
-    print(state.run(int(most)), end="")
-    if fault == "forgets a line":
-        state.place -= 1
-    store.write_bytes(pickle.dumps(state, protocol=4))
-    return 0
-
-
 class Blobs:
     """The blobs and names of a file, each with what was flushed of it."""
 
@@ -155,8 +124,8 @@ class Blobs:
         if word == "root":
             self.names[words[0]] = words[1]
             return "set"
-        if word == "roots":
-            return "\n".join(" ".join(it) for it in self.names.items())
+        if word == "ls":
+            return "\n".join(" ".join([*it, "1 versions"]) for it in self.names.items())
         if word == "tree":
             below = self.blobs.get(words[0], [])
             return "\n".join([words[0], *(self.answer("tree", [key]) for key in below)])
@@ -164,10 +133,10 @@ class Blobs:
 
 
 def blobs(fault, file, *words):
-    """Runs a command, or those of the input, over a file, which keeps what was flushed."""
+    """Runs a command, or for `serve` those of the input, over a file, which keeps what was flushed."""
     file = pathlib.Path(file)
     state = pickle.loads(file.read_bytes()) if file.exists() else Blobs()
-    for line in [" ".join(words)] if words else sys.stdin.read().splitlines():
+    for line in sys.stdin.read().splitlines() if words == ("serve",) else [" ".join(words)]:
         word, *rest = line.split(" ")
         print(state.answer(word, rest))
         if word == "flush":
@@ -175,6 +144,43 @@ def blobs(fault, file, *words):
             forgotten.clear()
             file.write_bytes(pickle.dumps(state))
     return int(fault == "has a flaw" and words == ("fsck",))
+
+
+def cached(fault, store, _, word, *words):
+    """Runs a command of the cache of `blobctl` over a folder beside the store, which is as long as all that is kept. An
+    entry is a file that begins with its status."""
+    store, folder = pathlib.Path(store), pathlib.Path(f"{store}.entries")
+    entries = sorted(folder.glob("*"), key=lambda it: it.stat().st_mtime_ns)
+    sizes = [it.stat().st_size - 4 for it in entries]
+    if word == "put":
+        folder.mkdir(exist_ok=True)
+        data = sys.stdin.buffer.read() if words[1] == "-" else pathlib.Path(words[1]).read_bytes()
+        part = store.parent / f"{store.name}-{os.getpid()}"
+        part.write_bytes(struct.pack("<I", int(words[3]) if len(words) > 2 else 0) + data)
+        part.rename(folder / words[0].lower())
+        store.write_bytes(bytes(sum(sizes) + len(data)))
+        return 0
+    if word == "stat":
+        print(f"{len(entries)} entries, {sum(sizes)} bytes")
+        return 0
+    if word == "trim":
+        count = next(it for it in range(len(sizes) + 1) if sum(sizes[it:]) <= int(words[0]))
+        for file in entries[-count:] if fault == "trims the newest" else entries[:count]:
+            file.unlink()
+        store.write_bytes(bytes(sum(sizes[count:])))
+        print(f"{count} entries dropped, {len(entries) - count} kept")
+        return 0
+    file = folder / words[0].lower()
+    if not file.exists() or fault == "keeps nothing":
+        print(f"blobctl: {store}: the cache has no such entry", file=sys.stderr)
+        return 1
+    content = (entries[0] if fault == "takes another" else file).read_bytes()
+    out = pathlib.Path(words[2]).open("wb") if len(words) > 1 else sys.stdout.buffer
+    out.write(content[4:])
+    out.flush()
+    if status := int.from_bytes(content[:4], "little"):
+        print(f"blobctl: kept status {status}", file=sys.stderr)
+    return 0
 
 
 def hosted(fault, command, *paths):

@@ -10,7 +10,7 @@ The tool on files of blobs takes the `blobctl` that `rt ci` built, and ten wrong
 are tried once `rt ci` has ended.
 
 Lines of `rt ci` begin with the minutes and seconds since the start. Behind them stands what each tool said, and a table
-of times by crate and tool (tools/gate_times.py writes docs/PROOFS.md's from it). The last line is 'N passed, M failed':
+of times by crate and tool (tools/gate_times.py writes docs/TESTS.md's from it). The last line is 'N passed, M failed':
 what `rt ci` counts, and each tool as one. The status is 0 if nothing failed.
 """
 import itertools

@@ -1,5 +1,5 @@
 #!/usr/bin/env python3
-"""Tells what a run of the gate takes, by crate and by tool, and writes the table of docs/PROOFS.md.
+"""Tells what a run of the gate takes, by crate and by tool, and writes the table of docs/TESTS.md.
 
     tools/gate_times.py LOG         writes the table from the log of a gate that proved everything anew
 
@@ -30,8 +30,8 @@ def available_mb():
 
 
 def peaks_in_docs(top):
-    """The peak of memory of each crate's check and of each tool, in MB, by the table of docs/PROOFS.md."""
-    text = (top / "docs" / "PROOFS.md").read_text(encoding="utf-8")
+    """The peak of memory of each crate's check and of each tool, in MB, by the table of docs/TESTS.md."""
+    text = (top / "docs" / "TESTS.md").read_text(encoding="utf-8")
     rows = DOCS_ROW.findall(text.split(MARKS[0])[1].split(MARKS[1])[0])
     return {name: int(peak.replace(",", "")) for name, _, peak in rows}
 
@@ -112,7 +112,7 @@ class Usage:
 
 
 def docs_table(log, top):
-    """The table of docs/PROOFS.md by a gate's log."""
+    """The table of docs/TESTS.md by a gate's log."""
     total = TOTAL.search(log)
     if not total or ALL_DONE not in log:
         sys.exit("gate_times: the log is of no gate that proved everything in one run (tools/gate.py --anew)")
@@ -124,7 +124,7 @@ def docs_table(log, top):
 
 def main():
     top = Path(__file__).resolve().parent.parent
-    docs, log = top / "docs" / "PROOFS.md", Path(sys.argv[1]).read_text(encoding="utf-8", errors="replace")
+    docs, log = top / "docs" / "TESTS.md", Path(sys.argv[1]).read_text(encoding="utf-8", errors="replace")
     text, table = docs.read_text(encoding="utf-8"), docs_table(log, top)
     front, _, rest = text.partition(MARKS[0])
     docs.write_text(front + table + rest.partition(MARKS[1])[2], encoding="utf-8")

@@ -4,7 +4,7 @@
     plain_rows.py answers FILE      prints the file, each row that has an answer with that of the plain pager
     plain_rows.py draw SEED COUNT   prints a new machine, COUNT drawn lists of events and a look
 
-A row is one line: a new machine, a look, or calls separated by semicolons. docs/PROOFS.md tells its words, of which
+A row is one line: a new machine, a look, or calls separated by semicolons. docs/TESTS.md tells its words, of which
 `chain` stands in worked rows alone.
 """
 

@@ -43,11 +43,11 @@ import original_rows  # noqa: E402
 import pagectl  # noqa: E402
 import pictures  # noqa: E402
 import plain_file  # noqa: E402
-import plain_lines  # noqa: E402
 import plain_pager  # noqa: E402
 import plain_rows  # noqa: E402
 import plain_script  # noqa: E402
 import plain_values  # noqa: E402
+import plainly  # noqa: E402
 import power  # noqa: E402
 import refusing  # noqa: E402
 import rows  # noqa: E402
@@ -148,8 +148,8 @@ def check_text(work):
     faults = [("crates/pagable_core/src/lib.rt", added) for added in MEMORY]
     faults += [("crates/pagable_locked/src/slot.rt", added) for added in [TWICE, *LOCKS]]
     faults = [(file, added, f"{file}:") for file, added in faults]
-    pages = {"quick/src/main": "README", "four_threads/src/main": "README", "remote/src/folder_blobs": "docs/GUIDE"}
-    faults += [(f"crates/{file}.rt", "\n// Another line.\n", f"{page}.md:") for file, page in pages.items()]
+    shown = ("quick/src/main", "four_threads/src/main", "remote/src/folder_blobs")
+    faults += [(f"crates/{file}.rt", "\n// Another line.\n", "docs/GUIDE.md:") for file in shown]
     faults.append(("crates/pagable_core/src/lib.rt", "\n/// Does nothing.\npub fn nothing() {}\n", "docs/INDEX.md:"))
     for file, added, said in faults:
         text = (work / file).read_text(encoding="utf-8")
@@ -633,17 +633,17 @@ def fuzzed(_):
 
 
 def programs(work):
-    """A machine that goes on at the line before, and a file that is read although it was changed."""
+    """A file that is read although it was changed; a cache that keeps nothing, takes another entry, trims the newest."""
     run = module_at("run_of_programs", HERE / "programs" / "run.py")
     for fault, why in [("", ""), ("reads what was changed", "in place of")]:
         folder = work / f"texts {fault}"
         folder.mkdir()
         yield why, told(run.remote, program(work, "remote", fault), folder)
-    for fault, why in [("", ""), ("forgets a line", "in place of")]:
-        folder = work / f"work {fault}"
+    faults = {"": "", "keeps nothing": "build runs 12", "takes another": "in place of", "trims the newest": "entry"}
+    for fault, why in faults.items():
+        folder = work / f"builds-{fault.replace(' ', '-')}"
         folder.mkdir()
-        with mock.patch.object(run.random, "randrange", lambda first, behind: behind - 1):
-            yield why, told(run.heap_snapshot, program(work, "machine", fault), folder)
+        yield why, run.caching.fault_of(program(work, "cached", fault), "make", folder) or ""
 
 
 def proved(work, text, status):
@@ -688,7 +688,7 @@ def files(work):
     faults = {"": "", "forgets names": "the root is", "forgets blobs": "blobs of", "has a flaw": "fsck"}
     for fault, why in faults.items():
         blobctl, file = program(work, "blobs", fault), work / f"file {fault}"
-        said = asking.run(blobctl, file, text=lines)
+        said = asking.serve(blobctl, file, lines)
         yield why, asking.lost(blobctl, file, roots, asking.flushes(said.stdout), 3) or ""
     yield "", asking.lost(blobctl, work / "none", roots, 0, 3) or ""
 
@@ -719,7 +719,7 @@ def refused_calls(work):
         file.write_bytes(content)
         done = types.SimpleNamespace(stdout="".join(f"{line}\n" for line in said), stderr="", returncode=0)
         again = lambda *_, done=done, **more: file.write_bytes(whole) and done  # noqa: E731
-        with mock.patch.object(refusing, "run", again):
+        with mock.patch.object(refusing, "serve", again):
             yield why, refusing.checked(work, file, plain_file.file_of(), asked, done, refusing.plain_state(file)
                                         if content == whole else ({key: (0, b"\1")}, {})) or ""
 
@@ -727,10 +727,10 @@ def refused_calls(work):
 def plain_answers(_):
     """An answer that isn't the plain one, and one too many."""
     asked, key = ["put 01", "stat", "what"], asking.key_of(b"\1")
-    told = [key, "1 blobs, 1 bytes, 0 names", "bad line"]
-    other = [key, "1 blobs, 2 bytes, 0 names", "bad line"]
-    for said, why in [(told, ""), (other, "in place of"), ([*told, "more"], "lines more")]:
-        yield why, plain_lines.compared(asked, said) or ""
+    told = [key, "1 blobs, 1 bytes, 0 names", "bad line", ""]
+    other = [key, "1 blobs, 2 bytes, 0 names", "bad line", ""]
+    for said, why in [(told, ""), (other, "in place of"), ([*told, "more"], "more lines")]:
+        yield why, plainly.compared(asked, "\n".join(said)) or ""
 
 
 def host_files(work):
@@ -748,7 +748,7 @@ def plain_files(_):
     """A file of blobs whose sum, name or header is another one, or whose gate is shut."""
     first = plain_file.blob(b"one")
     content = plain_file.file_of(plain_file.batch([first], [(b"main", first[0])]))
-    yield "", "" if plain_file.PlainFile(content).roots() == [f"main {first[0]}"] else "other names"
+    yield "", "" if plain_file.PlainFile(content).roots() == [f"main {first[0]} 1 versions"] else "other names"
     for at, why in [(0, "none of blobs"), (33, "is damaged"), (len(content) - 2, "is damaged"), (16, "no blob")]:
         try:
             read = plain_file.PlainFile(content[:at] + b"?" + content[at + 1 :])
@@ -814,7 +814,7 @@ TOOLS = {
     "failures/table.py": refusals, "failures/pagectl.py": scripts, "fuzz.py": fuzzed, "programs": programs,
     "gate.py": of_gate, "gate_times.py": of_times, "file_blobs": files, "host_files": host_files,
     "file_blobs/power.py": power_cuts, "file_blobs/refusing.py": refused_calls,
-    "file_blobs/plain_lines.py": plain_answers, "file_blobs/plain_file.py": plain_files,
+    "file_blobs/plainly.py": plain_answers, "file_blobs/plain_file.py": plain_files,
     "declarations": declarations, "hostile": hostile_run, "rows": data_rows, "nightly.py": of_night,
 }
 

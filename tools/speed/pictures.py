@@ -1,4 +1,4 @@
-"""Draws the table of speed in docs/PROOFS.md as SVG, from the table alone. `speed_by_row` has each row's time here over
+"""Draws the table of speed in docs/SPEED.md as SVG, from the table alone. `speed_by_row` has each row's time here over
 the original's, `speed_by_size` the time of a cell or a call by how many there are, and `speed_by_threads` that by how
 many threads share a storage.
 """

@@ -1,4 +1,4 @@
-"""The rows of the table of speed in docs/PROOFS.md, and the table as text, written and read. tools/compare_speed.py
+"""The rows of the table of speed in docs/SPEED.md, and the table as text, written and read. tools/compare_speed.py
 measures it, and pictures.py draws it.
 """
 import collections
@@ -6,7 +6,7 @@ import pathlib
 import re
 import sys
 
-PAGE = pathlib.Path(__file__).resolve().parents[2] / "docs" / "PROOFS.md"
+PAGE = pathlib.Path(__file__).resolve().parents[2] / "docs" / "SPEED.md"
 # What stands before and behind the table of times in the page, and before and behind that of instructions.
 TIMES = ("<!-- table -->", "<!-- end of the table -->")
 INSTRUCTIONS = ("<!-- instructions -->", "<!-- end of the instructions -->")
