@@ -160,6 +160,7 @@ pub(crate) fn read_with_references<E: Env<Node: NodeSet<E>>, A: Access<E>>(
 /// blob, type and references wants the same reference next. Beside its references, a value holds
 /// only values that their handles pin.
 #[tactic(auto, using(crate::proofs::LoadSteps::tells_all))]
+#[inline(always)]
 pub fn decode<E: Env<Node: NodeSet<E>>, A: Access<E>>(
     access: &A,
     alloc: Global,

@@ -140,6 +140,7 @@ impl Reading {
 /// Shares the value that a reference's handle pins. Returns None for a loose reference, and if the
 /// handle pins no value or isn't live. Fails with OutOfMemory only.
 #[tactic(auto, using(crate::proofs::Lending::sharing))]
+#[inline(always)]
 pub(crate) fn value_of<E: Env<Node: NodeSet<E>>, A: Access<E>>(
     access: &A,
     reference: ArcRef,
@@ -174,6 +175,7 @@ fn are_read_later(got: &[ArcRef]) -> bool
 
 // Returns what `value_of` returns for each of these references, in their order; an empty list if
 // all of them are loose. Fails with OutOfMemory only.
+#[inline(always)]
 pub(crate) fn values_of<E: Env<Node: NodeSet<E>>, A: Access<E>>(
     access: &A,
     alloc: Global,
@@ -200,6 +202,7 @@ impl Reading {
     /// to share these values, it returns `Refuse`. A value that was read holds, beside its
     /// references, the values that their handles pin.
     #[tactic(auto, using(crate::proofs::LoadSteps::needing, crate::proofs::LoadSteps::tells_all))]
+    #[inline(always)]
     pub fn next_need<E: Env<Node: NodeSet<E>>, A: Access<E>>(
         &self,
         access: &A,
@@ -243,6 +246,7 @@ impl Reading {
 impl Reading {
     /// Takes the innermost blob off, and reserves room for one more reference in it, and in `below`
     /// for one more blob that waits. Fails with OutOfMemory only.
+    #[inline(always)]
     pub(crate) fn pop_frame(&mut self) -> Result<Frame, Error>
         requires { IsSome self.old.top }
         ensures ok { IfOk result (λ top. TakenOff self.old self.new top) }
@@ -258,6 +262,7 @@ impl Reading {
     /// Takes the innermost blob and the one below it off, and reserves room for one more reference
     /// in the lower one. Fails with OutOfMemory only.
     #[tactic(auto, using(crate::proofs::LoadSteps::stacking))]
+    #[inline(always)]
     pub(crate) fn pop_two_frames(&mut self) -> Result<(Frame, Frame), Error>
         requires top { IsSome self.old.top }
         requires below { 0 < length self.old.below.items }
@@ -272,6 +277,7 @@ impl Reading {
     }
 
     /// Makes `top` the innermost blob again, and appends `reference` to those that were got for it.
+    #[inline(always)]
     pub(crate) fn push_resolved(&mut self, mut top: Frame, reference: ArcRef)
         requires { vec_len top.got < vec_capacity top.got }
         ensures gets { frames_of self.new.top self.new.below.items
@@ -299,6 +305,7 @@ impl Reading {
     /// Makes a reference's blob the innermost, above the one that asked for it. Fails with TooDeep
     /// if it would be the 129th below the root.
     #[tactic(auto, using(crate::proofs::LoadSteps::stacking))]
+    #[inline(always)]
     pub(crate) fn put_blob(
         &mut self,
         alloc: Global,

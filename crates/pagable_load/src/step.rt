@@ -251,6 +251,7 @@ impl Reading {
 
     // Makes the step that gets what the load needs, and counts it. Drops the load if that fails.
     #[tactic(auto, using(crate::proofs::LoadSteps::giving_up, crate::proofs::Keyed::staying))]
+    #[inline(always)]
     fn step_for<E: Env<Node: NodeSet<E>>, A: Access<E>>(
         &mut self,
         access: &mut A,

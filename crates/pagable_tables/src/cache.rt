@@ -101,6 +101,7 @@ pub fn forget_gone(t: &mut Tables)
 
 /// Returns the node that is cached under a kind and a key; None if there is none, if it is gone or,
 /// for a pinned kind, if its value isn't in memory.
+#[inline(always)]
 pub fn usable_of(t: &Tables, kind: Kind, key: DataKey) -> Option<NodeNumber>
     requires { IsWhole t.now }
     ensures { (storage : StorageView) → option_map (λ (n : NodeNumber). n.0) result

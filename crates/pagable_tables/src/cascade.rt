@@ -119,6 +119,7 @@ pub fn first_dying_after(before: bool, falls: bool, node: u64, top: u64) -> u64
 /// is set, lists the node's cell if the handle was its last pin and the cell has no key; if the
 /// cell can't be listed, the error is kept in `listing_error`.
 #[tactic(auto, using(crate::proofs::CascadeStep::counting))]
+#[inline(always)]
 pub fn release_without_cascade(t: &mut RefCounts, at: HandleAt, stays: bool, lists: bool)
     requires falling { (stack : List ℕ) × IsSoundInCascade t.old stack (owns at.row) }
     requires place { slice_get t.old.handles.places.items at.place ≡ Some (alive at.row) }
@@ -200,6 +201,7 @@ fn drop_value<N: Drop>(values: &mut NodeValues<N>, done: Option<NodeNumber>)
 /// Runs the cascade to its end: releases the handles of each dying node's references, and drops the
 /// node's value. It takes memory only for list entries and their handles.
 #[tactic(auto, using(crate::proofs::CascadeEnd::falls))]
+#[inline(always)]
 pub fn cascade<N: Drop>(t: &mut RefCounts, values: &mut NodeValues<N>, lists: bool)
     requires falling { (stack : List ℕ) × IsSoundInCascade t.old stack owns_nothing × (length stack ≤ 1) }
     ensures whole { IsSoundInCascade t.new [] owns_nothing }
@@ -222,6 +224,7 @@ pub fn cascade<N: Drop>(t: &mut RefCounts, values: &mut NodeValues<N>, lists: bo
 }
 
 /// Releases the handle and runs the cascade. The first error of listing is kept in `listing_error`.
+#[inline(always)]
 pub fn release_at<N: Drop>(t: &mut RefCounts, values: &mut NodeValues<N>, at: HandleAt, lists: bool)
     requires steady { IsSoundInCascade t.old [] owns_nothing }
     requires place { slice_get t.old.handles.places.items at.place ≡ Some (alive at.row) }
@@ -246,6 +249,7 @@ pub fn release_at<N: Drop>(t: &mut RefCounts, values: &mut NodeValues<N>, at: Ha
 ///
 /// - `NumbersSpent`, `OutOfMemory` if a cell can't be listed for page-out: the cascade is complete
 ///   all the same.
+#[inline(always)]
 pub fn finish_cascade<N: Drop>(
     t: &mut RefCounts,
     values: &mut NodeValues<N>,

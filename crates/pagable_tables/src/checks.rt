@@ -40,6 +40,7 @@ use pagable_value_spec::{ArcRef, Error, HandleNumber, LoadNumber};
 ///
 /// - `NoSuchHandle` if the handle isn't live.
 /// - `NotYours` if another owns it.
+#[inline(always)]
 pub fn find_owned(t: &Tables, me: Owner, handle: HandleNumber) -> Result<HandleAt, Error>
     requires { IsWhole t.now }
     ensures place { IfOk result (λ at. slice_get t.now.ref_counts.handles.places.items at.place ≡ Some (alive at.row)) }
@@ -227,6 +228,7 @@ pub fn named_fault(handles: &Handles, owner: Owner, named: &[HandleNumber]) -> O
 }
 
 /// Returns why a load of a key can't hand over the handles that are named, if it can't.
+#[inline(always)]
 pub(crate) fn hand_over_fault(
     t: &Tables,
     me: Owner,
@@ -248,6 +250,7 @@ pub(crate) fn hand_over_fault(
 ///
 /// - `NoSuchHandle` if no such load is open.
 /// - `NotYours` if another began it.
+#[inline(always)]
 pub fn load_row(t: &Tables, me: Owner, load: LoadNumber) -> Result<LoadRow, Error>
     ensures row { IfOk result (λ row. load_at t.now.loads load.0 ≡ Some row) }
     ensures own { IfOk result (λ row. (storage : StorageView)

@@ -105,6 +105,7 @@ fn look_at_guesses(places: &[Place], number: u64) -> Option<HandleAt>
 /// Returns the live handle of this number, with its index: after one or two looks if a guess of
 /// `look_at_guesses` is right, else by binary search.
 #[tactic(auto, using(crate::proofs::HandleTable::looks))]
+#[inline(always)]
 pub fn find_live(handles: &Handles, number: HandleNumber) -> Option<HandleAt>
     requires { AreSound handles.now }
     ensures none { IfNone result (find_row number.0 (live handles.now.places.items) ≡ None) }

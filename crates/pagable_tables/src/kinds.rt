@@ -96,6 +96,7 @@ fn rank(error: &Error) -> u32
 
 /// Returns the error of the lower `rank`, `a` if the ranks are equal. If one error is None, returns
 /// the other.
+#[inline(always)]
 pub fn earlier(a: Option<Error>, b: Option<Error>) -> Option<Error>
     ensures { result ≡ earlier a b }
 {

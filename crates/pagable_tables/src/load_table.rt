@@ -38,6 +38,7 @@ pub struct LoadRow {
 }
 
 /// Returns the row of a load, None if no such load is open.
+#[inline(always)]
 pub fn load_of(loads: &Loads, load: u64) -> Option<LoadRow>
     ensures { result ≡ load_at loads.now load }
 {

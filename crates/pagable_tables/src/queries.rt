@@ -80,6 +80,7 @@ pub fn key(t: &Tables, handle: HandleNumber) -> Result<OptionalDataKey, Error>
 /// # Errors
 ///
 /// - `NoSuchHandle` if the handle isn't live.
+#[inline(always)]
 pub fn is_paged_out(t: &Tables, handle: HandleNumber) -> Result<bool, Error>
     requires { IsWhole t.now }
     ensures { (storage : StorageView) → IsPagedOutCall (core_of t.now storage) handle result }
