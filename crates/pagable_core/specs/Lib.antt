@@ -1,3 +1,4 @@
 pub mod Data
 pub mod Context
 pub mod Roots
+pub mod Counts
