@@ -16,7 +16,7 @@ use Rattle.pagable_tables.specs.{
 }
 use Rattle.pagable_theorems.proofs.{LoadProgress.row-pins, Trees.same_some, ValuesOwned.pinned-here}
 use Rattle.pagable_value_spec.specs.declared.{error.Error.Error, numbers.{HandleNumber.HandleNumber, LoadNumber.LoadNumber}}
-use Rattle.std.proofs.{Common.{Err, List, Ok, Result, Some, ap, arith, false, inl, inr, refl, subst, sym, true, ℕ, [], ◌∙◌, ◌≡◌, ◌≤◌}, lemmas.Bool.Decides.nat_tests}
+use Rattle.std.proofs.{Common.{Err, IfErr, List, Ok, Result, Some, ap, arith, false, inl, inr, refl, subst, sym, true, ℕ, [], ◌∙◌, ◌≡◌, ◌≤◌}, lemmas.Bool.Decides.nat_tests}
 use Rattle.std.specs.Prelude.{length}
 use Rattle.pagable_pager_spec.specs.Pager as pager
 
@@ -28,6 +28,11 @@ pub not-begun : {N S E H K V : Type 0} {tells : Storages S E N H K V} {says : E 
     → PinRun (says p.environment) (pager_state tells p) h (Err e) (pager_state tells (record p { tables = t }))
 not-begun {tells = tells} {p = p} was t {e = e} is call = load-is-refused e (pager_state tells (record p { tables = t }))
     (record { step = call; moves = record { each = λ n x has. inl has; environment = refl }; whole = is.state })
+
+-- what follows of each error
+pub err-map : {X E : Type 0} (r : Result X E) {P Q : E → Type 0} → ((e : E) → P e → Q e) → IfErr r P → IfErr r Q
+err-map (Ok x) f p = p
+err-map (Err e) f p = f e p
 
 -- a leaf stays one while rows, cells and numbers stay
 leaf-alike : {w w1 : Core} {leaf : Leaf} → w1.rows ≡ w.rows → SameAt w.cells w1.cells → w1.last ≡ w.last → IsLeaf w Owner.Caller leaf

@@ -23,6 +23,7 @@ ghost use Rattle.pagable_tables.specs.{HandleTable.room, Leaf.IsLeaf, Soundness.
 ghost use Rattle.pagable_value_spec.specs.Blob.{key_of};
 ghost use Rattle.std.specs.{Arc.arc_value, Option.option_map, Prelude.{IfErr, IfOk, IfSome, IsTrue, None, Ok, Some, if◌then◌else◌, true, ◌≡◌, ◌≤◌}};
 
+pub mod leaf_pins;
 pub mod leaves;
 
 use crate::pager::Pager;
@@ -230,7 +231,7 @@ pub(crate) struct PinnedAway<N> {
 }
 
 // Returns a call's result, and states the pager's invariant after the call.
-fn with_invariant<E: Env<Node: NodeSet<E>>, S: PagableStorage<E>, X: Drop>(
+pub(crate) fn with_invariant<E: Env<Node: NodeSet<E>>, S: PagableStorage<E>, X: Drop>(
     answer: X,
     pager: &Pager<E, S>,
 ) -> X

@@ -116,7 +116,7 @@ impl<'a, E: Env<Node: NodeSet<E>>, S: PagableStorage<E>> Lent<'a, E, S> {
 
     /// Takes entries of the page-out list off it, for this access's owner, and shares the values of
     /// their cells: those below `left`, from the last of them on, as long as their cells have no key
-    /// and their values are in memory and refer to nothing, but at most four. The first leaf is that of
+    /// and their values are in memory and refer to nothing, but at most sixteen. The first leaf is that of
     /// the last entry.
     pub fn take_leaves(&mut self, alloc: Global, left: usize) -> Vec<TakenLeaf<E::Node>>
         ensures acts { Acts (λ l. if S.is_honest l.pager.now.storage then Some (pager_state S.PagableStorage l.pager.now)

@@ -7,7 +7,7 @@ ghost use Rattle.pagable_pager.specs.{
   Leaf.{LeafBegun, LeafDropped, LeafFetched, LeafPinned, LeafUnbegun},
   View.{Between, BetweenIfHonest, SameNames, pager_core, pager_state},
 };
-ghost use Rattle.pagable_pager_spec.specs.Access.{IsValueOf, PinRun};
+ghost use Rattle.pagable_pager_spec.specs.{Access.{IsValueOf, MakesCall, PinRun}, LoadCalls.BeginCall, World.Alike};
 ghost use Rattle.pagable_tables.specs.{HandleTable.room, Leaf.IsLeaf};
 ghost use Rattle.pagable_value_spec.specs.Blob.{key_of};
 ghost use Rattle.std.specs.{Arc.arc_value, Prelude.{Err, IfErr, IfNone, IfOk, IfSome, IsTrue, [], ◌≡◌, ◌≤◌}};
@@ -27,7 +27,7 @@ use std::sync::Arc;
 
 /// Reads a blob without references as a value of this type without references. Returns None if
 /// either has references, or the blob can't be read.
-pub(crate) fn read_leaf<E: Env<Node: NodeSet<E>>, A: Access<E>>(
+pub fn read_leaf<E: Env<Node: NodeSet<E>>, A: Access<E>>(
     access: &A,
     alloc: Global,
     blob: &PagableData,
@@ -97,6 +97,28 @@ impl<E: Env<Node: NodeSet<E>>, S: PagableStorage<E>> Pager<E, S> {
                 Err(e)
             }
         }
+    }
+
+    /// Finds the cell of a loose handle of the caller's, if its value isn't in memory, and reserves
+    /// room for a pin. Returns None and changes nothing if the value is in memory, or the handle can't
+    /// be pinned by a load.
+    ///
+    /// # Errors
+    ///
+    /// - `OutOfMemory` if there is no room for the pin: nothing changes.
+    pub(crate) fn find_leaf(&mut self, handle: HandleNumber) -> Result<Option<Leaf>, Error>
+        ensures number { IfOk result (λ found. IfSome found (λ leaf. leaf.row.number ≡ handle)) }
+        ensures leaf { IfOk result
+            (λ found. IfSome found (IsLeaf (pager_core S.PagableStorage self.new) Owner.Caller)) }
+        ensures place { IfOk result (λ found. IfSome found (λ leaf. 1 ≤ room self.new.tables.ref_counts.handles)) }
+        ensures stays { Between E.Node.NodeSet E.Env E.Hash.KeyHash S.PagableStorage self.old self.new
+            (λ v s s'. MakesCall v (λ w'. Alike s.core w') s s') }
+        ensures refused { Between E.Node.NodeSet E.Env E.Hash.KeyHash S.PagableStorage self.old self.new
+            (λ v s s'. IfErr result (λ e. MakesCall v (λ w'. BeginCall s.core Owner.Caller handle (Err e) w') s s')) }
+        ensures storage { self.new.storage ≡ self.old.storage }
+        ensures environment { self.new.environment ≡ self.old.environment }
+    {
+        leaf::prepare_pin(&mut self.tables, Owner::Caller, handle)
     }
 
     /// Begins a load of the cell, whose blob was fetched, and returns its number.

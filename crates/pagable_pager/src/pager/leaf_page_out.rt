@@ -26,12 +26,13 @@ use pagable_codec::{Env, KeyHash, NodeSet};
 use pagable_core::{PagableData, PagableStorage, SerializerForPaging, SessionOf, compute_keys};
 use pagable_pager_spec::handle_row::Owner;
 use pagable_tables::leaf_entry::{self, LeafEntry};
-use pagable_value_spec::{DataKey, Error, HandleNumber, Kind, NodeNumber};
+use pagable_value_spec::{DataKey, Error, HandleNumber, Kind, NodeNumber, OptionalDataKey};
 use std::alloc::Global;
 use std::sync::Arc;
 
-/// How many leaves are paged out at once: so many messages have their hashes made in lanes.
-pub(crate) const LEAVES_AT_ONCE: usize = 4;
+/// How many leaves are paged out at once: their hashes are made four at a time, in lanes, and threads
+/// that page out meet at the lock once for so many.
+pub(crate) const LEAVES_AT_ONCE: usize = 16;
 
 /// The node of an entry of the page-out list, and its value.
 #[derive(Drop)]
@@ -133,8 +134,10 @@ impl<E: Env<Node: NodeSet<E>>, S: PagableStorage<E>> Pager<E, S> {
         ensures { IfSome result (λ value. HoldsBare (values_at E.Node.NodeSet E.Env E.Hash.KeyHash self.now.environment)
             (pager_state S.PagableStorage self.now) place (arc_value value)) }
     {
-        let entry = self.leaf_entry(place)?;
-        let value = self.values.get(entry.row.node.0)?;
+        let (row, _, OptionalDataKey::None) = self.pending_entry(place)? else {
+            return None;
+        };
+        let value = self.values.get(row.node.0)?;
         let references = value.refs(alloc).ok()?;
         if !references.is_empty() {
             return None;
@@ -345,7 +348,7 @@ impl<E: Env<Node: NodeSet<E>>, S: PagableStorage<E>> Pager<E, S> {
     }
 
     /// Pages out entries of the page-out list in one call: those below `left`, from the last of them
-    /// on, as long as their cells have no key and their values no references, but at most four.
+    /// on, as long as their cells have no key and their values no references, but at most sixteen.
     /// Hashes their blobs at once, and then pages out one after the other. Returns how many entries
     /// are left below them.
     ///
