@@ -129,11 +129,12 @@ pub mod storage {
         pub use pagable_core::SerializerForPaging;
     }
 
-    /// Storages, without and with named roots, and the `Setting` that all values over a storage
-    /// share; accesses to a pager, lent or behind a lock, and the functions that pin, read and page
-    /// out by them; tables of claims, and the error of a page-out.
+    /// Storages, without and with named roots, one that counts what another one is asked for, and
+    /// the `Setting` that all values over a storage share; accesses to a pager, lent or behind a
+    /// lock, and the functions that pin, read and page out by them; tables of claims, and the error
+    /// of a page-out.
     pub mod traits {
-        pub use pagable_core::{PagableStorage, Roots, Setting};
+        pub use pagable_core::{CountedStorage, PagableStorage, Roots, Setting, StorageCounts};
         pub use pagable_load::{
             Access, CellPin, WorkerAccess, pin_over, pin_with_state_over, read_over,
         };
@@ -199,9 +200,9 @@ pub use pagable_value_spec::{
 // Pagers and storages.
 pub use pagable_calls::machine::Machine;
 pub use pagable_core::{
-    InMemoryBlobs, NoReferences, PagableData, PagableDeserializerImpl, PagableKeys,
+    CountedStorage, InMemoryBlobs, NoReferences, PagableData, PagableDeserializerImpl, PagableKeys,
     PagableSerializerImpl, PagableStorage, References, Roots, SerializedData, SerializerForPaging,
-    Setting, Sha256Key, WeighHash,
+    Setting, Sha256Key, StorageCounts, WeighHash,
 };
 pub use pagable_load::{Access, CellPin, WorkerAccess, pin_over, pin_with_state_over, read_over};
 pub use pagable_locked::{

@@ -11,7 +11,7 @@ use crate::storage_handle::PagableStorageHandle;
 use futures::task::{Context, Poll};
 use pagable_codec::{Env, NodeSet};
 use pagable_core::{PagableData, PagableStorage};
-use pagable_load::{Access, BegunPin, CellReading, begin_polled_pin};
+use pagable_load::{BegunPin, CellReading, begin_polled_pin};
 use pagable_traits::{NewPin, Polls};
 use pagable_value_spec::{DataKey, Error, HandleNumber};
 use std::alloc::Global;
@@ -67,74 +67,6 @@ impl<E: Env<Node: NodeSet<E>>, S: PagableStorage<E>> HandlePin<E, S> {
     {
         self.storage.inner.pager.lock(rt).poll_fetch(cx, alloc, key)
     }
-
-    // Reads the cell's value from the cell's blob, and pins the cell.
-    #[tactic(auto, using(pagable_load::proofs::Keyed::own_type))]
-    fn read<R: Wait>(
-        &self,
-        rt: &R,
-        alloc: Global,
-        reading: CellReading,
-        blob: Arc<PagableData>,
-    ) -> Result<NewPin<E::Node>, Error>
-        requires named { key_of E.Hash.digest (blob_of (arc_value blob)) ≡ reading.reading.key }
-        ensures keyed { IfOk result (λ pin. IsPinKeyed (values_at E.Node.NodeSet E.Env E.Hash.KeyHash
-            (arc_value (arc_value self.now.storage.inner).setting).env) pin.read_from (arc_value pin.value)) }
-    {
-        let mut access = self.storage.access(rt);
-        let key = reading.key();
-        let (pinned, read) = reading.read(&mut access, alloc, blob)?;
-        match read {
-            Some(value) => Ok(NewPin {
-                handle: pinned,
-                value,
-                was_unpinned: true,
-                read_from: Some(key),
-            }),
-            None => self.finish(rt, pinned, true, access.share(pinned)),
-        }
-    }
-
-    // Returns a new pin of a cell that had its value, or undoes the pin if the value can't be
-    // shared.
-    fn finish<R: Wait>(
-        &self,
-        rt: &R,
-        pinned: HandleNumber,
-        was_unpinned: bool,
-        shared: Result<Option<Arc<E::Node>>, Error>,
-    ) -> Result<NewPin<E::Node>, Error>
-        ensures { IfOk result (λ pin. pin.read_from ≡ None) }
-    {
-        let refused = match shared {
-            Ok(Some(value)) => {
-                return Ok(NewPin {
-                    handle: pinned,
-                    value,
-                    was_unpinned,
-                    read_from: None,
-                });
-            }
-            Ok(None) => Error::NoSuchHandle,
-            Err(e) => e,
-        };
-        self.undo(rt, pinned, was_unpinned);
-        Err(refused)
-    }
-
-    // Undoes a pin: releases the Pinned handle, and unpins the loose one if the pin had pinned it.
-    fn undo<R: Wait>(&self, rt: &R, pinned: HandleNumber, was_unpinned: bool) {
-        let mut access = self.storage.access(rt);
-        if was_unpinned {
-            let _told = access.unpin(self.handle);
-        }
-        let _told = access.release(pinned);
-    }
-
-    // Drops the load of this reading.
-    fn drop_load<R: Wait>(&self, rt: &R, reading: &CellReading) {
-        let _told = self.storage.access(rt).load_drop(reading.load());
-    }
 }
 
 impl<E: Env<Node: NodeSet<E>>, S: PagableStorage<E>> Polls<E> for HandlePin<E, S> {
@@ -157,7 +89,14 @@ impl<E: Env<Node: NodeSet<E>>, S: PagableStorage<E>> Polls<E> for HandlePin<E, S
             PinState::Begin => match self.begin(rt, alloc) {
                 Ok(BegunPin::Reading(reading)) => reading,
                 Ok(BegunPin::Pinned(pinned, was_unpinned, shared)) => {
-                    return Poll::Ready(self.finish(rt, pinned, was_unpinned, shared));
+                    let storage = &self.storage;
+                    return Poll::Ready(storage.finish_pin(
+                        rt,
+                        self.handle,
+                        pinned,
+                        was_unpinned,
+                        shared,
+                    ));
                 }
                 Err(e) => return Poll::Ready(Err(e)),
             },
@@ -169,21 +108,25 @@ impl<E: Env<Node: NodeSet<E>>, S: PagableStorage<E>> Polls<E> for HandlePin<E, S
                 self.state = PinState::Fetch(reading);
                 Poll::Pending
             }
-            Poll::Ready(Ok(blob)) => Poll::Ready(self.read(rt, alloc, reading, blob)),
+            Poll::Ready(Ok(blob)) => {
+                let storage = &self.storage;
+                Poll::Ready(storage.read_pin(rt, alloc, self.handle, reading, blob))
+            }
             Poll::Ready(Err(e)) => {
-                self.drop_load(rt, &reading);
+                self.storage.drop_load(rt, reading.load());
                 Poll::Ready(Err(e))
             }
         }
     }
 
     fn undo_pin<R: Wait>(&self, rt: &R, pinned: HandleNumber, was_unpinned: bool) {
-        self.undo(rt, pinned, was_unpinned);
+        self.storage
+            .undo_pin_of(rt, self.handle, pinned, was_unpinned);
     }
 
     fn cancel<R: Wait>(&mut self, rt: &R) {
         if let PinState::Fetch(reading) = replace(&mut self.state, PinState::Ended) {
-            self.drop_load(rt, &reading);
+            self.storage.drop_load(rt, reading.load());
         }
     }
 }

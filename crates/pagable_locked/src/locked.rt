@@ -6,9 +6,10 @@ ghost use Rattle.pagable_load.specs.{
   AccessView.{Acts, IfKnown, IsReadBy, MakesCallBringing, values_at},
   PinStart.ended_of,
 };
+ghost use Rattle.pagable_pager.specs.LeafPins.{IsNamedFetch};
 ghost use Rattle.pagable_pager_spec.specs.{LoadCalls.EndCall, Pager.{IsCellOf, PagerState, ValueCall}};
 ghost use Rattle.pagable_value_spec.specs.Blob.{key_of};
-ghost use Rattle.std.specs.{Arc.arc_value, Prelude.{IfOk, None, Ok, Some, map, true, vec_len, ◌≡◌, ◌≤◌}};
+ghost use Rattle.std.specs.{Arc.arc_value, Prelude.{IfOk, IfSome, None, Ok, Some, length, map, true, vec_len, [], ◌<◌, ◌≡◌, ◌≤◌}};
 
 use crate::lock::lock_briefly;
 use either::Either;
@@ -17,8 +18,9 @@ use pagable_core::{PagableData, PagableStorage, SessionOf, Setting};
 use pagable_load::{
     Access, EndedLoad, PinnedOrLoading, StartedPin, TakenValue, WorkerAccess, WorkerNode,
 };
-use pagable_pager::{Lent, Pager, TakenLeaf, WrittenLeaves, write_leaves};
+use pagable_pager::{BegunFetch, Lent, Pager, TakenLeaf, WrittenLeaves, write_leaves};
 use pagable_pager_spec::handle_row::Owner;
+use pagable_tables::leaf::Leaf;
 use pagable_value_spec::{
     ArcRef, DataKey, Error, HandleNumber, Kind, LoadNumber, NodeNumber, OptionalDataKey,
     WorkerNumber,
@@ -204,6 +206,35 @@ impl<'a, R: Wait, E: Env<Node: NodeSet<E>>, S: PagableStorage<E>> Access<E>
 }
 
 impl<'a, R: Wait, E: Env<Node: NodeSet<E>>, S: PagableStorage<E>> Locked<'a, R, E, S> {
+    // Begins a pin by the caller, or fetches the cell's blob, as `Lent::begin_pin_or_fetch` does.
+    #[inline(always)]
+    pub(crate) fn begin_pin_or_fetch(
+        &self,
+        alloc: Global,
+        handle: HandleNumber,
+    ) -> Result<BegunFetch<E::Node>, Error>
+        ensures named { IfOk result (IsNamedFetch E.Hash.digest) }
+    {
+        let mut pager = lock_briefly(self.pager, self.rt);
+        Lent::new(&mut *pager).begin_pin_or_fetch(alloc, handle)
+    }
+
+    // Pins the cell of a leaf with a value that was read of the leaf's blob, for the caller, as
+    // `Lent::pin_read_leaf` does.
+    pub(crate) fn pin_read_leaf(
+        &self,
+        alloc: Global,
+        leaf: Leaf,
+        value: E::Node,
+    ) -> Result<Option<(HandleNumber, Arc<E::Node>)>, Error>
+        requires typed { E.Node.type_of value ≡ leaf.node_type }
+        requires bare { E.Node.refs_of value ≡ [] }
+        ensures value { IfOk result (λ found. IfSome found (λ pin. arc_value pin.1 ≡ value)) }
+    {
+        let mut pager = lock_briefly(self.pager, self.rt);
+        Lent::new(&mut *pager).pin_read_leaf(alloc, leaf, value)
+    }
+
     // Takes leaves off the page-out list, as `Lent::take_leaves` does.
     fn take_leaves(&self, alloc: Global, left: usize) -> Result<Vec<TakenLeaf<E::Node>>, Error>
         ensures { IfOk result (λ taken. vec_len taken ≤ left) }
@@ -223,6 +254,120 @@ impl<'a, R: Wait, E: Env<Node: NodeSet<E>>, S: PagableStorage<E>> Locked<'a, R, 
     {
         let mut pager = lock_briefly(self.pager, self.rt);
         Lent::for_owner(&mut *pager, self.me)?.finish_leaves(alloc, taken, written)
+    }
+}
+
+// Returns whether one of the nodes before this place is the one there; false if none is known there.
+fn is_listed_before(nodes: &[NodeNumber], place: usize) -> bool {
+    let Some(node) = nodes.get(place) else {
+        return false;
+    };
+    for other in &nodes[..place] {
+        if other == node {
+            return true;
+        }
+    }
+    false
+}
+
+// Returns the first place behind this one, and below `end`, whose node stands before it; `end` if there is none.
+fn end_of_cells(nodes: &[NodeNumber], place: usize, end: usize) -> usize
+    requires { place < end }
+    ensures later { place < result }
+    ensures within { result ≤ end }
+{
+    for at in place + 1..end {
+        if is_listed_before(nodes, at) {
+            return at;
+        }
+    }
+    end
+}
+
+// Returns whether two of these leaves may be of one cell: then its value is shared by both, and by the cell.
+fn may_repeat<N>(taken: &[TakenLeaf<N>]) -> bool {
+    for leaf in taken {
+        if Arc::strong_count(&leaf.value) > 2 {
+            return true;
+        }
+    }
+    false
+}
+
+impl<'a, R: Wait, E: Env<Node: NodeSet<E>>, S: PagableStorage<E>> Locked<'a, R, E, S> {
+    // Writes and hashes leaves of different cells, and stores them. Fails as the first that can't be written or
+    // stored does: it and those after it go back to the list.
+    fn page_out_cells(&self, alloc: Global, taken: &[TakenLeaf<E::Node>]) -> Result<(), Error> {
+        let written = write_leaves(&self.setting.env, &self.setting.session, alloc, taken);
+        let refused = written.refused;
+        self.finish_leaves(alloc, taken, written)?;
+        match refused {
+            Some(e) => Err(e),
+            None => Ok(()),
+        }
+    }
+
+    // Puts taken leaves back to the list, as `Lent::finish_leaves` does with leaves that aren't written.
+    fn give_back(&self, alloc: Global, taken: &[TakenLeaf<E::Node>]) {
+        let none = WrittenLeaves {
+            blobs: Vec::new(alloc),
+            keys: Vec::new(alloc),
+            refused: None,
+        };
+        let _told = self.finish_leaves(alloc, taken, none);
+    }
+
+    // Releases the handle of a taken leaf.
+    fn release_taken(&self, handle: HandleNumber) -> Result<(), Error> {
+        let mut pager = lock_briefly(self.pager, self.rt);
+        Lent::for_owner(&mut *pager, self.me)?.release(handle)
+    }
+
+    // Returns the node of a handle.
+    fn node_of(&self, handle: HandleNumber) -> Result<NodeNumber, Error> {
+        lock_briefly(self.pager, self.rt).node_of(handle)
+    }
+
+    // Returns the nodes of taken leaves, if two of them may be of one cell.
+    fn nodes_of(
+        &self,
+        alloc: Global,
+        taken: &[TakenLeaf<E::Node>],
+    ) -> Result<Vec<NodeNumber>, Error> {
+        let mut nodes = Vec::new(alloc);
+        if !may_repeat(taken) {
+            return Ok(nodes);
+        }
+        for leaf in taken {
+            let node = self.node_of(leaf.handle)?;
+            nodes.push(node)?;
+        }
+        Ok(nodes)
+    }
+
+    // Pages out the leaves of these nodes from this place on, of which those before it are done: an entry whose
+    // cell has been paged out only gives up its handle. Fails as the first that can't be written or stored
+    // does: it and those after it go back to the list.
+    fn page_out_taken(
+        &self,
+        alloc: Global,
+        taken: &[TakenLeaf<E::Node>],
+        nodes: &[NodeNumber],
+        place: usize,
+    ) -> Result<(), Error> {
+        let Some(leaf) = taken.get(place) else {
+            return Ok(());
+        };
+        if is_listed_before(nodes, place) {
+            let _released = self.release_taken(leaf.handle);
+            return self.page_out_taken(alloc, taken, nodes, place + 1);
+        }
+        let end = end_of_cells(nodes, place, taken.len());
+        if let Err(e) = self.page_out_cells(alloc, &taken[place..end]) {
+            self.give_back(alloc, &taken[end..]);
+            return Err(e);
+        }
+        self.page_out_taken(alloc, taken, nodes, end)
     }
 }
 
@@ -329,18 +474,18 @@ impl<'a, R: Wait, E: Env<Node: NodeSet<E>>, S: PagableStorage<E>> WorkerAccess<E
         }
     }
 
-    // Holds the lock twice for up to four leaves, and writes and hashes them between the two.
+    // Holds the lock twice for up to sixteen leaves, and writes and hashes them between the two.
     fn page_out_leaves(&mut self, alloc: Global, left: usize) -> Result<usize, Error> {
         let taken = self.take_leaves(alloc, left)?;
-        if taken.is_empty() {
-            return Ok(left);
-        }
-        let written = write_leaves(&self.setting.env, &self.setting.session, alloc, &taken);
-        let refused = written.refused;
-        self.finish_leaves(alloc, &taken, written)?;
-        match refused {
-            Some(e) => Err(e),
-            None => Ok(left - taken.len()),
+        match self.nodes_of(alloc, taken.as_slice()) {
+            Ok(nodes) => {
+                self.page_out_taken(alloc, taken.as_slice(), nodes.as_slice(), 0)?;
+                Ok(left - taken.len())
+            }
+            Err(e) => {
+                self.give_back(alloc, taken.as_slice());
+                Err(e)
+            }
         }
     }
 }

@@ -6,7 +6,6 @@ use crate::lock::lock_briefly;
 use crate::storage_handle::PagableStorageHandle;
 use pagable_codec::{Env, NodeSet};
 use pagable_core::PagableStorage;
-use pagable_load::pin_with_state_over;
 use pagable_traits::{FirstHandle, NewPin, Storage};
 use pagable_value_spec::{DataKey, Error, HandleNumber, NodeNumber, OptionalDataKey};
 use std::alloc::Global;
@@ -82,14 +81,7 @@ impl<E: Env<Node: NodeSet<E>>, S: PagableStorage<E>> Storage<E> for PagableStora
         alloc: Global,
         handle: HandleNumber,
     ) -> Result<NewPin<E::Node>, Error> {
-        let mut access = self.access(rt);
-        let pin = pin_with_state_over(&mut access, alloc, handle)?;
-        Ok(NewPin {
-            handle: pin.handle,
-            value: pin.value,
-            was_unpinned: pin.was_unpinned,
-            read_from: pin.read_from,
-        })
+        self.pin_cell(rt, alloc, handle)
     }
 
     fn polled_pin(&self, handle: HandleNumber) -> Result<HandlePin<E, S>, Error> {
