@@ -12,9 +12,9 @@ takes its caller's word, is used only for what `regex` and the kit's `sqlite` re
 In `pagable_locked` a lock is taken by the name of the field that has it, and a lock of the pager stands in fields
 `pager` alone. A function that locks the pager takes that lock once and makes one call of `pagable_pager` by it, which
 has the function's name or the one in `OTHER_NAMES`, beside what makes the access of its owner. After the call it may
-ask for the node of the handle that it got, or for the blob that the cache didn't have. It has no loop and no macro from
-there on, and hands the guard to nothing but that access: so meanwhile no value is decoded or written, nothing is waited
-for and no other lock is taken.
+ask for the node of the handle that it got, for the blob that the cache didn't have, or for the counts of the storage
+that it got. It has no loop and no macro from there on, and hands the guard to nothing but that access: so meanwhile no
+value is decoded or written, nothing is waited for and no other lock is taken.
 
 If README.md or a page of docs shows a file (`This is`, its name, and the code), it shows that file without the comment
 at its head and its tests; if a part of a file (`From`, its name, and the code), these lines stand there one after the
@@ -71,20 +71,21 @@ CALLED = re.compile(r"(?<!fn )\b(\w+)(?:::<[^(){};]*>)?\(")
 # access of an owner, and what may follow that call.
 PLAIN = {"Ok", "Err", "Some", "Left", "Right", "Worker", "assert_invariant"}
 ACCESS = {"new", "for_owner"}
-# What may follow a call, once each: the node of the handle that it answered, and the blob where the cache answered none.
-FOLLOWS, ALSO = {"node_of"}, {"cache_get": {"fetch"}}
+# What may follow a call, once each: the node of the handle that it answered, the blob where the cache answered none, and
+# the counts of the storage.
+FOLLOWS, ALSO = {"node_of"}, {"cache_get": {"fetch"}, "storage": {"counts"}}
 # A new handle is made by one of these.
 INSERTS = {"new_loose", "new_shared", "new_pinned"}
 # The calls of functions that have another name than their call.
 OTHER_NAMES = {
     "insert": INSERTS, "clone_handle": {"clone"}, "fetch_data_blocking": {"fetch"}, "poll_blob": {"poll_fetch"},
     "fetch_arc_or_data_blocking": {"cache_get"}, "store_data": {"store_keyed"}, "load_end": {"end_load"},
-    "pending_paging_count": {"pending"},
+    "pending_paging_count": {"pending"}, "release_taken": {"release"}, "storage_counts": {"storage"},
 }
 GUARD = re.compile(r"(?<![.\w])pager\b(?!\s*\.)")
 # A file that a page shows, and what it shows.
 SHOWN = re.compile(r"This is\s`((?:tools/)?crates/\S+\.(?:rt|rattle|decl))`[^`]*\n\n```rust\n(.*?)```", re.S)
-PART = re.compile(r"From\s`((?:tools/)?crates/\S+\.(?:rt|rattle))`[^`]*\n\n```rust\n(.*?)```", re.S)
+PART = re.compile(r"From\s`((?:tools/crate_tests|(?:tools/)?crates)/\S+\.(?:rt|rattle))`[^`]*\n\n```rust\n(.*?)```", re.S)
 PRINTED = re.compile(r"This is\s`(crates/\S+/stdout)`(?:.|\n(?!\n))*\n\n((?: {4}.*\n)+)")
 KEPT = re.compile(r"let (?:mut )?pager = |Lent::(?:new|for_owner)\(&mut \*pager\b")
 
@@ -133,7 +134,7 @@ def is_one_call(function, behind, pager):
     is_one = len(calls) == len(set(calls)) and set(rest) <= FOLLOWS | ALSO.get(calls[0] if calls else "", set())
     is_bounded = not re.search(r"\b(?:for|while|loop)\b|\w!\s*[(\[{]|\|", behind)
     is_kept = not GUARD.search(KEPT.sub("", behind)) and (re.match(r"[^()]*\)\s*\.", behind) or "pager" in behind)
-    return is_own and is_one and set(calls) <= pager and is_bounded and bool(is_kept)
+    return is_own and is_one and set(calls) <= pager | {"counts"} and is_bounded and bool(is_kept)
 
 
 def lengthy_locks():

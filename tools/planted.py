@@ -138,7 +138,7 @@ def check_text(work):
     """A want of memory that is invented, two calls under the lock, a lock by another name, pages with other code than
     the file's, and an item that the index lacks."""
     leave = shutil.ignore_patterns("out", "proofs", "specs", "must-fail")
-    for folder in ("crates", "tools/crates"):
+    for folder in ("crates", "tools/crates", "tools/crate_tests"):
         shutil.copytree(TOP / folder, work / folder, ignore=leave)
     (work / "docs").mkdir()
     pages = [TOP / "README.md", TOP / "crates.txt", *(TOP / "docs").glob("*.md")]

@@ -44,6 +44,8 @@ ROWS = [
     Row("loads", 16_000, ("begin", "end")),
     Row("fronts", 100_000, ("take",)),
     Row("backwards", 20_000, ("make",)),
+    # (once more with tables that the processor's caches hold)
+    Row("locked_calls/1", 4_000, ("clone", "unpin", "pin", "release")),
     *(Row(f"{row.name}/{threads}", row.count, row.parts) for row in SHARED for threads in THREADS),
 ]
 # What the original has no call for.
