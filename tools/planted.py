@@ -567,14 +567,19 @@ def names(_):
 
 
 def refusals(_):
-    """A refusal that never came, and a fault that was told."""
-    came = collections.Counter((call, number) for call, numbers in table.wanted() for number in numbers)
+    """A refusal that never came, one that can't come and came, and a fault that was told."""
+    asked = {(call, number) for call, numbers in table.wanted() for number in numbers}
+    came = collections.Counter(asked - table.NEVER.keys())
     missing = []
     told(lambda: missing.extend(table.printed(came)))
     yield "", "".join(missing)
     del came["clone", 18]
     told(lambda: missing.extend(table.printed(came)))
     yield "clone was never refused with NoSuchHandle", "".join(missing)
+    missing.clear()
+    came["fetch", 22] = came["clone", 18] = 1
+    told(lambda: missing.extend(table.printed(came)))
+    yield "fetch was refused with OutOfMemory, which can't come", "".join(missing)
     run = module_at("run_of_failures", HERE / "failures" / "run.py")
     tally = sweeps.Tally()
     told(tally.fault, "planted", "a fault")

@@ -49,6 +49,7 @@ NEVER = {
     ("fetch", 22): "blobs in memory are shared, which takes no memory",
     ("work-set", 21): "a worker's handle pins the cell, so that nothing is listed",
     ("work-set", 22): "a worker's handle pins the cell, so that nothing is listed",
+    ("typed-page_out_pending", 21): "a text refers to nothing, and such a cell is paged out without a worker's handle",
     ("value-write", 6): "a list of so many items would take 4 GiB",
 }
 
@@ -61,7 +62,7 @@ def wanted():
 
 
 def printed(refusals):
-    """Prints the table, a line for each call; those that have to come and never came."""
+    """Prints the table, a line for each call; what had to come and never came, and what came and can't."""
     missing = []
     for call, numbers in wanted():
         others = {number for of, number in refusals if of == call}
@@ -71,4 +72,6 @@ def printed(refusals):
         missing += [f"{call} was never refused with {NAMES[number]}" for number in never]
     for (call, number), why in NEVER.items():
         print(f"{call}: {NAMES[number]} can't come: {why}")
+        if refusals.get((call, number)):
+            missing.append(f"{call} was refused with {NAMES[number]}, which can't come: {why}")
     return missing
