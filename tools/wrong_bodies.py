@@ -3,7 +3,7 @@
 breaks.
 
 usage: tools/wrong_bodies.py [--over-ci] [--jobs N] [CRATE..]     (with no crate: every one that has wrong bodies)
-       tools/wrong_bodies.py [--over-ci] [--jobs N] --drawn COMMIT    (ten of all, drawn by the commit's hash)
+       tools/wrong_bodies.py [--over-ci] [--jobs N] --drawn COMMIT    (five of all, drawn by the commit's hash)
 
 As many crates are tried side by side as --jobs says, or one. With --over-ci the libraries are those that `rt ci` left in
 this checkout when it ended, and none is built. Of drawn ones only the functions that they break are checked, with those
@@ -229,7 +229,7 @@ def try_crate(crate, is_over_ci, drawn=None):
     return len(edits) - len(failed), len(failed)
 
 
-def drawn_by(commit, count=10):
+def drawn_by(commit, count=5):
     """So many of all wrong bodies, drawn by a commit's hash: their names by crates."""
     told = subprocess.run(["git", "rev-parse", commit], cwd=TOP, check=True, capture_output=True, text=True)
     every = [(file.stem, edit.name) for file in sorted(EDITS.iterdir()) for edit in edits_in(file)]
