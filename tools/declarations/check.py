@@ -16,7 +16,7 @@ import tempfile
 HERE = pathlib.Path(__file__).resolve().parent
 CRATES, DECLARATIONS = HERE.parent.parent / "crates", HERE.parent / "crates" / "pagable_derive" / "data"
 # The printed crates, and their declarations.
-PRINTED = {"declared_types": "types.decl"}
+PRINTED = {"declared_types": "types.decl", "history": "history.decl"}
 sys.dont_write_bytecode = True
 sys.path.insert(0, str(HERE.parent / "speed"))
 import build  # noqa: E402

@@ -2,8 +2,8 @@
 //! the second one first, and prints them.
 #![tactic(auto)]
 
-use history::{Commit, History};
-use pagable::{Error, InMemoryBlobs, PagableArc, Pager, PinnedPagableArc, RawRef};
+use history::{Commit, CommitRef, History};
+use pagable::{Error, InMemoryBlobs, PagableArc, Pager, PinnedPagableArc};
 use pagable_typed::TypedPager;
 use std::alloc::Global;
 
@@ -15,7 +15,7 @@ fn insert_commit(
     alloc: Global,
     pager: &mut CommitPager,
     message: &str,
-    parent: Option<RawRef<1>>,
+    parent: Option<CommitRef>,
 ) -> Result<PagableArc<Commit>, Error> {
     let message = String::from_str(alloc, message)?;
     let commit = Commit {

@@ -3,6 +3,7 @@ pub mod Dishes
 pub mod Dolls
 pub mod Expressions
 pub mod Linked
+pub mod Notes
 pub mod Sizes
 pub mod Tasks
 pub mod Words
