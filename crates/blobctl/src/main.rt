@@ -3,7 +3,8 @@
 //! about texts that the file keeps under names. `blobctl help` lists the commands.
 //!
 //! What a command shows stands on standard output, and why it fails on standard error, behind the
-//! file's path. The status is 0, 1 for a flaw or what isn't there, 2 for a wrong call, 3 if a file fails.
+//! file's path. The status is 0, 1 for a flaw, a difference or what isn't there, 2 for a wrong call, 3 if a
+//! file fails.
 #![tactic(auto)]
 
 mod arguments;
@@ -14,11 +15,13 @@ mod change;
 mod collect;
 mod command;
 mod copy;
+mod diff;
 mod entry;
 mod export;
 mod find;
 mod graph;
 mod import;
+mod json;
 mod keep;
 mod line;
 mod listing;
@@ -33,6 +36,7 @@ mod texts;
 mod tree;
 mod usage;
 mod versions;
+mod words;
 
 use crate::arguments::{Request, parse};
 use crate::command::Command;
@@ -76,14 +80,14 @@ fn write_out(rt: &HostRuntime, bytes: &[u8], path: Option<String>) -> Result<(),
     Ok(())
 }
 
-/// Prints what a command answers, and returns the status: 1 if it names a flaw.
+/// Prints what a command answers, and returns the status: 1 if it names a flaw or a difference.
 fn print_answer(rt: &HostRuntime, answer: Answer) -> Result<u8, Refusal> {
     match answer {
         Answer::Lines(text) => {
             print(rt, text.as_str())?;
             Ok(0)
         }
-        Answer::Flaws(text) => {
+        Answer::Flaws(text) | Answer::Differences(text) => {
             print(rt, text.as_str())?;
             Ok(1)
         }

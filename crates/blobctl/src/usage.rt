@@ -8,6 +8,11 @@ fn named<'a>(alloc: Global, name: &'a str, about: &'a str) -> Command<'a> {
     Command::new(alloc, name).about(about)
 }
 
+/// Makes the option for an answer in JSON.
+fn json<'a>(alloc: Global) -> Arg<'a> {
+    arg!(in alloc; -j --json "Answer a document in JSON")
+}
+
 /// Makes `ls`.
 fn ls<'a>(alloc: Global) -> Result<Command<'a>, AllocError> {
     named(
@@ -16,14 +21,38 @@ fn ls<'a>(alloc: Global) -> Result<Command<'a>, AllocError> {
         "List the roots, all blobs, or the children of ROOT's blob",
     )
     .arg(arg!(in alloc; [ROOT] "A root, as main or main~1, a key or its first digits"))?
-    .arg(arg!(in alloc; -a --all "List all blobs").conflicts_with("ROOT")?)
+    .arg(arg!(in alloc; -a --all "List all blobs").conflicts_with("ROOT")?)?
+    .arg(json(alloc))
 }
 
 /// Makes `log`.
 fn log<'a>(alloc: Global) -> Result<Command<'a>, AllocError> {
-    named(alloc, "log", "List the versions of a root, the last first").arg(
-        arg!(in alloc; <ROOT> "The root's name"),
+    named(alloc, "log", "List the versions of a root, the last first")
+        .arg(arg!(in alloc; <ROOT> "The root's name"))?
+        .arg(json(alloc))
+}
+
+/// Makes `diff`.
+fn diff<'a>(alloc: Global) -> Result<Command<'a>, AllocError> {
+    named(
+        alloc,
+        "diff",
+        "List the blobs that one root reaches and the other doesn't",
     )
+    .arg(arg!(in alloc; <FIRST> "A root, as main~1, a key or its first digits: - in the list"))?
+    .arg(arg!(in alloc; <SECOND> "Another one: + in the list"))?
+    .arg(arg!(in alloc; -e --exact "Read also what both share"))?
+    .arg(json(alloc))
+}
+
+/// Makes `stat`.
+fn stat<'a>(alloc: Global) -> Result<Command<'a>, AllocError> {
+    named(
+        alloc,
+        "stat",
+        "Count the blobs, their bytes and the names of roots",
+    )
+    .arg(json(alloc))
 }
 
 /// Makes `cat`.
@@ -159,7 +188,8 @@ fn cache<'a>(alloc: Global) -> Result<Command<'a>, AllocError> {
         alloc,
         "stat",
         "Count the entries and the bytes of their contents",
-    );
+    )
+    .arg(json(alloc))?;
     named(alloc, "cache", "Keep what commands wrote under digests")
         .subcommand_required(true)
         .arg_required_else_help(true)
@@ -181,6 +211,7 @@ fn with_looks<'a>(alloc: Global, program: Command<'a>) -> Result<Command<'a>, Al
     program
         .subcommand(ls(alloc)?)?
         .subcommand(log(alloc)?)?
+        .subcommand(diff(alloc)?)?
         .subcommand(cat(alloc)?)?
         .subcommand(of_root(
             alloc,
@@ -196,13 +227,8 @@ fn with_looks<'a>(alloc: Global, program: Command<'a>) -> Result<Command<'a>, Al
 
 /// Adds the commands that test the file, and make others of it.
 fn with_whole_looks<'a>(alloc: Global, program: Command<'a>) -> Result<Command<'a>, AllocError> {
-    let stat = named(
-        alloc,
-        "stat",
-        "Count the blobs, their bytes and the names of roots",
-    );
     program
-        .subcommand(stat)?
+        .subcommand(stat(alloc)?)?
         .subcommand(fsck(alloc)?)?
         .subcommand(copy(alloc)?)?
         .subcommand(export(alloc)?)
@@ -262,4 +288,5 @@ const USAGE: &str =
     "blobctl FILE COMMAND\n       blobctl texts FILE\n       blobctl help [COMMAND]";
 
 const AFTER: &str = "FILE is a path; ./FILE if it begins with `-` or is called `texts` or `help`. \
-    The status is 0, or 1 for a flaw or what isn't there, 2 for a wrong call, 3 if the file fails.";
+    The status is 0, or 1 for a flaw, a difference or what isn't there, 2 for a wrong call, 3 if the \
+    file fails.";

@@ -79,7 +79,7 @@ pub fn count_roots<R: Wait, H: KeyHash, S: Roots<TextEnv<H>>>(
     rt: &R,
     alloc: Global,
     storage: &TextStorage<H, S>,
-    names: &[String],
+    names: &HashSet<String>,
 ) -> Result<Counts, Error> {
     let mut counting = RootCounter::new(alloc);
     for name in names {
