@@ -202,21 +202,21 @@ impl PairWalk {
         }
     }
 
-    /// Returns a key with its blob's sizes, unless that is missing.
-    fn reference(&self, key: DataKey) -> Reference {
-        let blob = match self.read.get(&key) {
+    /// Returns the sizes of a key's blob, or None if that is missing.
+    fn sizes(&self, key: DataKey) -> Option<ListedBlob> {
+        match self.read.get(&key) {
             Some(read) => Some(read.sizes),
             None => None,
-        };
-        Reference { key, blob }
+        }
     }
 
-    /// Returns the keys to which the walk came from just this side.
+    /// Returns the keys to which the walk came from just this side, each with its blob's sizes.
     fn on_side(&self, alloc: Global, side: Side) -> Result<Vec<Reference>, AllocError> {
         let mut found = Vec::new(alloc);
         for key in &self.met {
             if self.is_on(*key, side) {
-                found.push(self.reference(*key))?;
+                let blob = self.sizes(*key);
+                found.push(Reference { key: *key, blob })?;
             }
         }
         Ok(found)
