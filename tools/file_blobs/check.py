@@ -301,6 +301,8 @@ def statuses(program, folder):
                ([file, "copy", none, "a"], 1, f"blobctl: {file}: no root is called a\n"),
                ([file, "cat", "0" * 31 + "1"], 1, f"blobctl: {file}: no blob stands under {'0' * 31}1\n"),
                ([file, "put", none], 3, f"blobctl: {file}: {none}: "),
+               ([file, "copy", file], 2, f"blobctl: {file}: a file can't be copied to itself\n"),
+               ([file, "cat", b"\xff"], 2, "blobctl: an argument isn't UTF-8\n"),
                ([file, "copy", folder], 3, f"blobctl: {file}: {folder}: the path names no regular file\n")]
     for words, status, why in wanted:
         done = subprocess.run([program, *words], input="", capture_output=True, text=True, check=False)
@@ -379,8 +381,8 @@ def main():
         tests = [
             (kills, rounds), (collecting.kills, rounds), (collecting.race, seconds), (collecting.keeps,),
             (beside, seconds), (damages.opens,), (damages.flaws,), (damages.flaws_under,), (damages.each_byte,),
-            (damages.each_length,),
-            (access.rights,), (access.links,), (access.names,), (databases.imports,), (databases.exports,),
+            (damages.each_length,), (access.rights,), (access.links,), (access.outputs,), (access.names,),
+            (databases.imports,), (databases.exports,),
             (copies,), (size,), (full_disk,), (texts,), (statuses,), (helps,), (pipes,), (plainly.stored_run,),
             (plainly.drawn_lines,), (plainly.commands,), (plainly.kept,), (comparing.differences,),
             (comparing.reads_what_differs,), (comparing.documents,), (holding.second,), (power.power, rounds // 2),

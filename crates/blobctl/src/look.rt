@@ -102,7 +102,7 @@ fn answer_flaws(
         write_flaw(&mut text, flaw)?;
     }
     if tail > 0 {
-        writeln!(text, "{tail} bytes behind the last flush say nothing")?;
+        writeln!(text, "{tail} bytes behind the last flush are ignored")?;
     }
     writeln!(text, "{blobs} blobs, {} flaws", flaws.len())?;
     if flaws.is_empty() {
@@ -111,7 +111,7 @@ fn answer_flaws(
     Ok(Answer::Flaws(text))
 }
 
-/// Names each flaw of the file, and says how many bytes behind its last flush say nothing, and how many
+/// Names each flaw of the file, and says how many bytes behind its last flush are ignored, and how many
 /// blobs and flaws there are.
 fn test_file<B: Blobs>(rt: &HostRuntime, blobs: &mut B) -> Result<Answer, Error>
     ensures stays { Stays (B.view blobs.old) (B.view blobs.new) }

@@ -117,11 +117,14 @@ fn serve_request<W: Wait>(
     }
 }
 
-/// Tells why a command over the file of a path fails, unless that is nobody's fault, and returns the
-/// status.
+/// Tells why a command over the file of a path fails, unless that is nobody's fault or the status tells
+/// it, and returns the status.
 fn tell(rt: &HostRuntime, path: &str, refusal: &Refusal) -> u8 {
     if refusal.is_broken_pipe() {
         return 0;
+    }
+    if refusal.is_miss() {
+        return refusal.status();
     }
     let _shown = eprintln!(rt; "blobctl: {}: {refusal}", path.escape_debug());
     refusal.status()
@@ -151,6 +154,10 @@ fn serve_arguments<W: Wait>(rt: &HostRuntime, waits: &W) -> io::Result<u8> {
 fn main(rt: HostRuntime) -> ExitCode {
     match serve_arguments(&rt, &rt) {
         Ok(status) => ExitCode::from(status),
+        Err(error) if error.kind() == io::ErrorKind::InvalidData => {
+            let _shown = eprintln!(rt; "blobctl: an argument isn't UTF-8");
+            ExitCode::from(2)
+        }
         Err(error) => {
             let _shown = eprintln!(rt; "blobctl: {error}");
             ExitCode::from(3)

@@ -178,9 +178,9 @@ const VERSION: &str = "0.4.2";
 const USAGE: &str =
     "blobctl FILE COMMAND\n       blobctl texts FILE\n       blobctl help [COMMAND]";
 
-const AFTER: &str = "FILE is a path; ./FILE if it begins with `-` or is called `texts` or `help`. \
-    The status is 0, or 1 for a flaw, a difference or what isn't there, 2 for a wrong call, 3 if the \
-    file fails.";
+const AFTER: &str = "FILE is a path; ./FILE if it begins with `-` or is called `texts` or `help`.\n\
+    The status is 0, or 1 for a flaw, a difference or what isn't there, 2 for a wrong\n\
+    call, 3 if the file fails.";
 
 /// The option for an answer in JSON.
 const JSON: ArgumentRow = ArgumentRow(Form::Flag('j'), "json", "Answer a document in JSON");
@@ -229,10 +229,18 @@ const COMMANDS: &[CommandRow] = &[
             ArgumentRow(
                 Form::Word,
                 "FIRST",
-                "A root, as main~1, a key or its first digits: - in the list",
+                "A root, as main~1, a key or its first digits, whose own blobs are marked -",
             ),
-            ArgumentRow(Form::Word, "SECOND", "Another one: + in the list"),
-            ArgumentRow(Form::Flag('e'), "exact", "Read also what both share"),
+            ArgumentRow(
+                Form::Word,
+                "SECOND",
+                "The root to compare with, whose own blobs are marked +",
+            ),
+            ArgumentRow(
+                Form::Flag('e'),
+                "exact",
+                "Leave out what the other root reaches through shared blobs, too",
+            ),
             JSON,
         ],
     ),
@@ -257,7 +265,7 @@ const COMMANDS: &[CommandRow] = &[
     ),
     CommandRow(
         "stat",
-        "Count the blobs, their bytes and the names of roots",
+        "Count the blobs, their bytes and the roots",
         &[JSON],
     ),
     CommandRow(
@@ -304,7 +312,7 @@ const COMMANDS: &[CommandRow] = &[
     ),
     CommandRow(
         "root",
-        "Let a root's name stand for a blob",
+        "Point a root at a blob",
         &[
             ArgumentRow(Form::Word, "NAME", "The name"),
             ArgumentRow(
@@ -316,12 +324,12 @@ const COMMANDS: &[CommandRow] = &[
     ),
     CommandRow(
         "drop",
-        "Let a root's name stand for nothing",
+        "Remove a root (its versions stay until a gc)",
         &[ArgumentRow(Form::Word, "NAME", "The name")],
     ),
     CommandRow(
         "gc",
-        "Drop all blobs that no root reaches",
+        "Drop the blobs and versions that no root keeps",
         &[ArgumentRow(
             Form::Number('k', "N", ValueParser::Unsigned(1, u64::MAX), "1"),
             "keep",
@@ -345,7 +353,7 @@ const CACHE_COMMANDS: &[CommandRow] = &[
             ArgumentRow(
                 Form::Value('o', "PATH"),
                 "output",
-                "Write it to a file, which is replaced",
+                "Write it to this file, which is replaced, or into a pipe",
             ),
         ],
     ),
@@ -370,7 +378,7 @@ const CACHE_COMMANDS: &[CommandRow] = &[
     ),
     CommandRow(
         "trim",
-        "Drop the oldest entries, and collect garbage",
+        "Drop the entries that were put first, and then run a gc",
         &[
             ArgumentRow(
                 Form::Word,
