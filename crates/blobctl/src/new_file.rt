@@ -81,7 +81,7 @@ pub fn write_file(rt: &HostRuntime, path: &str, bytes: &[u8]) -> Result<(), Refu
 
 /// Writes bytes to the file of a path, as what is there asks for.
 fn write_over(rt: &HostRuntime, path: &str, bytes: &[u8]) -> Result<(), Refusal> {
-    match facts_at(rt, path) {
+    match facts_at(rt, path).map_err(OpenError::from) {
         Ok(None) => replace_file(rt, path, bytes),
         Ok(Some(_)) => replace_file(rt, fs::canonicalize(rt, path)?.as_str(), bytes),
         Err(OpenError::NotAFile) => Ok(fs::write(rt, path, bytes)?),
