@@ -47,7 +47,7 @@ impl<'a, R: Wait, H: KeyHash, S: Roots<TextEnv<H>>> DurableSession<'a, R, H, S> 
     where
         S: Drop,
     {
-        let roots = set_of(alloc, storage.root_names(alloc)?)?;
+        let roots = make_set(alloc, storage.root_names(alloc)?)?;
         let session = Session::over(rt, alloc, storage)?;
         Ok(DurableSession { session, roots })
     }
@@ -107,7 +107,7 @@ fn run<R: Wait, H: KeyHash, S: Roots<TextEnv<H>>>(
 }
 
 /// Makes a set of names.
-fn set_of(alloc: Global, names: Vec<String>) -> Result<HashSet<String>, Error> {
+fn make_set(alloc: Global, names: Vec<String>) -> Result<HashSet<String>, Error> {
     let mut set = HashSet::new(alloc);
     for name in names {
         set.insert(name)?;
