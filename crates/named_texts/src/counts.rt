@@ -4,7 +4,7 @@ use crate::text::TextEnv;
 use crate::text_storage::TextStorage;
 use pagable::{DataKey, Error, KeyHash, Roots};
 use std::alloc::Global;
-use std::collections::HashSet;
+use std::collections::BTreeSet;
 use std::fmt;
 use std::sync::Wait;
 
@@ -33,7 +33,7 @@ impl fmt::Display for Counts {
 #[derive(Drop)]
 struct RootCounter {
     counts: Counts,
-    keys: HashSet<DataKey>,
+    keys: BTreeSet<DataKey>,
 }
 
 impl RootCounter {
@@ -45,7 +45,7 @@ impl RootCounter {
                 bytes: 0,
                 names: 0,
             },
-            keys: HashSet::new(alloc),
+            keys: BTreeSet::new(alloc),
         }
     }
 
@@ -79,7 +79,7 @@ pub fn count_roots<R: Wait, H: KeyHash, S: Roots<TextEnv<H>>>(
     rt: &R,
     alloc: Global,
     storage: &TextStorage<H, S>,
-    names: &HashSet<String>,
+    names: &BTreeSet<String>,
 ) -> Result<Counts, Error> {
     let mut counting = RootCounter::new(alloc);
     for name in names {

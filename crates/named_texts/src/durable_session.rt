@@ -12,7 +12,7 @@ use crate::text_storage::TextStorage;
 use pagable::storage::handle::Storage;
 use pagable::{Env, Error, HandleNumber, KeyHash, Roots};
 use std::alloc::Global;
-use std::collections::HashSet;
+use std::collections::BTreeSet;
 use std::sync::Wait;
 
 /// The type number of texts.
@@ -26,7 +26,7 @@ where
 {
     pub(crate) session: Session<'a, R, H, S>,
     // All names that may stand for keys.
-    roots: HashSet<String>,
+    roots: BTreeSet<String>,
 }
 
 impl<'a, R: Wait, H: KeyHash, S: Roots<TextEnv<H>>> DurableSession<'a, R, H, S> {
@@ -69,7 +69,7 @@ impl<'a, R: Wait, H: KeyHash, S: Roots<TextEnv<H>>> Session<'a, R, H, S> {
     fn run_durable(
         &mut self,
         alloc: Global,
-        roots: &mut HashSet<String>,
+        roots: &mut BTreeSet<String>,
         command: DurableCommand<'_>,
     ) -> Result<Answer, Refusal> {
         let storage = &self.storage;
@@ -82,7 +82,7 @@ fn run<R: Wait, H: KeyHash, S: Roots<TextEnv<H>>>(
     rt: &R,
     alloc: Global,
     names: &mut Names,
-    roots: &mut HashSet<String>,
+    roots: &mut BTreeSet<String>,
     storage: &TextStorage<H, S>,
     command: DurableCommand<'_>,
 ) -> Result<Answer, Refusal>
@@ -107,8 +107,8 @@ fn run<R: Wait, H: KeyHash, S: Roots<TextEnv<H>>>(
 }
 
 /// Makes a set of names.
-fn make_set(alloc: Global, names: Vec<String>) -> Result<HashSet<String>, Error> {
-    let mut set = HashSet::new(alloc);
+fn make_set(alloc: Global, names: Vec<String>) -> Result<BTreeSet<String>, Error> {
+    let mut set = BTreeSet::new(alloc);
     for name in names {
         set.insert(name)?;
     }
@@ -116,7 +116,7 @@ fn make_set(alloc: Global, names: Vec<String>) -> Result<HashSet<String>, Error>
 }
 
 /// Adds a name to those that may stand for keys, unless it is among them.
-fn note_root(alloc: Global, roots: &mut HashSet<String>, root: &str) -> Result<(), Error> {
+fn note_root(alloc: Global, roots: &mut BTreeSet<String>, root: &str) -> Result<(), Error> {
     if !roots.contains(root) {
         roots.insert(String::from_str(alloc, root)?)?;
     }
@@ -127,7 +127,7 @@ fn note_root(alloc: Global, roots: &mut HashSet<String>, root: &str) -> Result<(
 fn save<R: Wait, H: KeyHash, S: Roots<TextEnv<H>>>(
     rt: &R,
     alloc: Global,
-    roots: &mut HashSet<String>,
+    roots: &mut BTreeSet<String>,
     storage: &TextStorage<H, S>,
     handle: HandleNumber,
     root: &str,
