@@ -4,7 +4,7 @@ use crate::text::TextEnv;
 use crate::text_storage::TextStorage;
 use pagable::{DataKey, Error, KeyHash, Roots};
 use std::alloc::Global;
-use std::collections::BTreeSet;
+use std::collections::{BTreeSet, HashSet};
 use std::fmt;
 use std::sync::Wait;
 
@@ -33,7 +33,7 @@ impl fmt::Display for Counts {
 #[derive(Drop)]
 struct RootCounter {
     counts: Counts,
-    keys: BTreeSet<DataKey>,
+    keys: HashSet<DataKey>,
 }
 
 impl RootCounter {
@@ -45,7 +45,7 @@ impl RootCounter {
                 bytes: 0,
                 names: 0,
             },
-            keys: BTreeSet::new(alloc),
+            keys: HashSet::new(alloc),
         }
     }
 
