@@ -172,7 +172,6 @@ def cached(fault, store, _, word, *words):
         return 0
     file = folder / words[0].lower()
     if not file.exists() or fault == "keeps nothing":
-        print(f"blobctl: {store}: the cache has no such entry", file=sys.stderr)
         return 1
     content = (entries[0] if fault == "takes another" else file).read_bytes()
     out = pathlib.Path(words[2]).open("wb") if len(words) > 1 else sys.stdout.buffer

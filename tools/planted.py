@@ -30,11 +30,13 @@ FOLDERS = ("hostile", "file_blobs", "threads", "programs", "failures", "speed", 
 sys.path[:0] = [str(HERE / folder) for folder in FOLDERS]
 import as_proved  # noqa: E402
 import asking  # noqa: E402
+import comparing  # noqa: E402
 import edits  # noqa: E402
 import fakes  # noqa: E402
 import fuzz  # noqa: E402
 import gate  # noqa: E402
 import gate_times  # noqa: E402
+import holding  # noqa: E402
 import hostile  # noqa: E402
 import middle  # noqa: E402
 import naming  # noqa: E402
@@ -46,6 +48,7 @@ import plain_file  # noqa: E402
 import plain_pager  # noqa: E402
 import plain_rows  # noqa: E402
 import plain_script  # noqa: E402
+import plain_tool  # noqa: E402
 import plain_values  # noqa: E402
 import plainly  # noqa: E402
 import power  # noqa: E402
@@ -738,6 +741,50 @@ def plain_answers(_):
         yield why, plainly.compared(asked, "\n".join(said)) or ""
 
 
+def compared_roots(_):
+    """A difference that lacks a key, tells one of both roots, or is right with another status; a document that isn't
+    the plain one."""
+    tool = plain_tool.PlainTool()
+    leaves = [tool.put_hex(word).strip() for word in ("01", "02", "03")]
+    for name, words in (("one", leaves[:2]), ("two", leaves[1:])):
+        tool.root(name, tool.put_hex(" ".join([f"{len(name)}{len(words)}{leaves.index(words[0])}0", *words])).strip())
+    right = tool.diff("one", "two")
+    less, more = right.partition("\n")[2], right + f"+ {tool.line(leaves[0])}"
+    cases = [(right, right, 1, ""), (right, right, 0, "in place of"), (less, right, 1, "in place of"),
+             (right, less, 1, "alone"), (right, more, 1, "alone"), (right, "no line", 1, "no line")]
+    for exact, near, status, why in cases:
+        answer = lambda *words, it=(exact, near), by=status: types.SimpleNamespace(  # noqa: E731
+            returncode=by, stdout=it["--exact" not in words], stderr="")
+        with mock.patch.object(comparing, "run", answer):
+            yield why, comparing.compared("", "file", tool, ("one", "two"))[0] or ""
+    shared = [[leaves[1]], [leaves[1]]]
+    yield "alone", comparing.fault_of_near(tool, ("one", "two"), shared) or ""
+    yield "of both", comparing.fault_of_near(tool, ("one", "one"), shared) or ""
+    for text, wanted in [('{"blobs":5}\n', "(0, {'blobs': 5}, '')"), ('{"blobs":5}', "'{\"blobs\":5}'")]:
+        done = types.SimpleNamespace(returncode=0, stdout=text, stderr="")
+        with mock.patch.object(comparing, "run", lambda *_, done=done: done):
+            yield wanted, str(comparing.as_json("", "file", "stat"))
+
+
+def held_files(work):
+    """A command that writes though another process has the file, one that is refused and writes, one that only looks
+    and is refused."""
+    file = work / "file"
+    refused = types.SimpleNamespace(returncode=3, stdout="", stderr=f"blobctl: {file}: {holding.IN_USE}")
+    done = types.SimpleNamespace(returncode=0, stdout="", stderr="")
+    for writing, looking, grows, why in [(refused, done, False, ""), (done, done, False, "beside a process"),
+                                         (refused, done, True, "beside a process"), (refused, refused, False, "['ls']")]:
+        file.write_bytes(b"all")
+
+        def answer(_, own, *words, it=(writing, looking), does_write=grows, **more):
+            if does_write:
+                own.write_bytes(own.read_bytes() + b"more")
+            return it[words == ("ls",)]
+
+        with mock.patch.object(holding, "run", answer):
+            yield why, holding.refused_beside("", file, [["put"]], [["ls"]]) or ""
+
+
 def host_files(work):
     """An open that takes no lock, and a look that writes."""
     check = module_at("check_of_host_files", HERE / "host_files" / "check.py")
@@ -819,6 +866,7 @@ TOOLS = {
     "failures/table.py": refusals, "failures/pagectl.py": scripts, "fuzz.py": fuzzed, "programs": programs,
     "gate.py": of_gate, "gate_times.py": of_times, "file_blobs": files, "host_files": host_files,
     "file_blobs/power.py": power_cuts, "file_blobs/refusing.py": refused_calls,
+    "file_blobs/comparing.py": compared_roots, "file_blobs/holding.py": held_files,
     "file_blobs/plainly.py": plain_answers, "file_blobs/plain_file.py": plain_files,
     "declarations": declarations, "hostile": hostile_run, "rows": data_rows, "nightly.py": of_night,
 }

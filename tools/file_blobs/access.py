@@ -1,5 +1,6 @@
 """Tries files of blobs that may only be read, that have several names or odd ones, and what is no file."""
 import os
+import stat
 import subprocess
 
 from asking import key_of, run, serve
@@ -81,6 +82,36 @@ def links(program, folder):
     if state(file.parent) != before:
         return "what is no file of blobs has changed"
     print("hard and symbolic links are followed; a pipe, a folder, devices and a link to itself are refused")
+    return None
+
+
+def outputs(program, folder):
+    """Entries of a cache are written over a file, over the one to which a link leads, and into a pipe. Where they can't
+    be written the path is told, and a miss is told by the status alone."""
+    folder = folder / "outputs"
+    folder.mkdir()
+    store, plain, target, link, pipe, new = (folder / it for it in ("store", "plain", "target", "link", "pipe", "new"))
+    plain.write_text("old")
+    target.write_text("older")
+    link.symlink_to("target")
+    os.mkfifo(pipe)
+    reader = os.open(pipe, os.O_RDONLY | os.O_NONBLOCK)
+    run(program, store, "cache", "put", "ab", "-", text="entry")
+    told = [run(program, store, "cache", "get", "ab", "-o", path) for path in (plain, link, pipe, new)]
+    found = [path.read_text() for path in (plain, target, new)] + [os.read(reader, 100).decode()]
+    os.close(reader)
+    if any(it.returncode or it.stdout or it.stderr for it in told) or found != ["entry"] * 4:
+        return f"outputs: {told} {found}"
+    if not link.is_symlink() or not stat.S_ISFIFO(pipe.lstat().st_mode) or len(list(folder.iterdir())) != 6:
+        return f"outputs: {sorted(folder.iterdir())}"
+    for path in (folder, folder / "none" / "x"):
+        done = run(program, store, "cache", "get", "ab", "-o", path)
+        if done.returncode != 3 or not done.stderr.startswith(f"blobctl: {store}: {path}: "):
+            return f"outputs: to {path}: {done}"
+    miss = run(program, store, "cache", "get", "cd", "-o", plain)
+    if (miss.returncode, miss.stdout, miss.stderr, plain.read_text()) != (1, "", "", "entry"):
+        return f"outputs: a miss gives {miss}"
+    print("outputs: entries go over a file, through a link and into a pipe")
     return None
 
 

@@ -1,7 +1,8 @@
 #!/usr/bin/env python3
 """Tries what users may do to files of blobs: kills, cuts of power, full disks, refused memory and calls of the disk,
-second writers, readers and copies beside a writer, gc beside others, damage, modes, links and odd names, databases,
-texts that one run saves and the next one opens, and calls that are none.
+second writers, readers and copies beside a writer, each command beside a second process, gc beside others, damage,
+modes, links and odd names, databases, texts that one run saves and the next one opens, differences of roots, answers in
+JSON, and calls that are none.
 
     tools/file_blobs/check.py [PROGRAM [KILLS [SECONDS [SEED]]]]
 
@@ -23,8 +24,10 @@ HERE = pathlib.Path(__file__).resolve().parent
 sys.path += [str(HERE), str(HERE.parent / "speed")]
 import access  # noqa: E402
 import collecting  # noqa: E402
+import comparing  # noqa: E402
 import damages  # noqa: E402
 import databases  # noqa: E402
+import holding  # noqa: E402
 import plainly  # noqa: E402
 import power  # noqa: E402
 import refusing  # noqa: E402
@@ -165,7 +168,8 @@ def copies(program, folder):
     file, other = removed(folder / "source.blobs"), removed(folder / "other.blobs")
     lines, roots = chain(300, 300, 50)
     looks = [["stat"], ["ls"], ["ls", "--all"], ["ls", "last"], ["log", "last"], ["cat", "last~2"], ["tree", "last"],
-             ["dot", roots[-1]], ["fsck"], ["fsck", "last"], ["cache", "stat"], ["copy", other]]
+             ["dot", roots[-1]], ["diff", "last", roots[-1]], ["ls", "--json"], ["log", "last", "--json"], ["fsck"],
+             ["fsck", "last"], ["cache", "stat"], ["copy", other]]
     commands = [["put"], ["root", "one", key_of(b"\x01")], *looks, ["drop", "last"], ["gc"], ["serve"]]
     serve(program, file, lines)
     for words in [["fsck"], *commands]:
@@ -284,11 +288,12 @@ def statuses(program, folder):
     missing, unknown = f"blobctl: {none}: there is no such file\n", f"blobctl: {file}: no root and no key is called "
     wrong = [["texts"], ["-f"], [none], [none, "stats"], [none, "stat", "more"], [none, "tree"], [none, "copy"],
              [none, "import-old"], [none, "export-db"], [none, ""], [none, "texts", file], [none, "diff", "a"],
+             [none, "tree", "a", "--json"], [none, "diff", "a", "b", "c"],
              [none, "ls", "--all", "main"], ["texts", none, "more"], [none, "put", "-", "more"], [none, "gc", "--keep", "0"]]
     wanted = [(words, 2, "") for words in [[], *wrong]]
     wanted.append(([file, "root", "", key], 2, f"blobctl: {file}: a root's name"))
-    looks = (["stat"], ["ls"], ["ls", "--all"], ["cat", key], ["tree", key], ["dot", key], ["fsck"], ["copy", file],
-             ["export-db", file])
+    looks = (["stat"], ["ls"], ["ls", "--all"], ["cat", key], ["tree", key], ["dot", key], ["diff", key, key], ["fsck"],
+             ["stat", "--json"], ["copy", file], ["export-db", file])
     wanted += [([none, *words], 3, missing) for words in (*looks, ["gc"], ["root", "a", key], ["drop", "a"])]
     wanted += [([file, *words, "no"], 1, f"{unknown}no\n") for words in (["cat"], ["ls"], ["root", "a"])]
     wanted += [([file, "fsck", "a"], 1, f"blobctl: {file}: no root is called a\n"),
@@ -296,6 +301,8 @@ def statuses(program, folder):
                ([file, "copy", none, "a"], 1, f"blobctl: {file}: no root is called a\n"),
                ([file, "cat", "0" * 31 + "1"], 1, f"blobctl: {file}: no blob stands under {'0' * 31}1\n"),
                ([file, "put", none], 3, f"blobctl: {file}: {none}: "),
+               ([file, "copy", file], 2, f"blobctl: {file}: a file can't be copied to itself\n"),
+               ([file, "cat", b"\xff"], 2, "blobctl: an argument isn't UTF-8\n"),
                ([file, "copy", folder], 3, f"blobctl: {file}: {folder}: the path names no regular file\n")]
     for words, status, why in wanted:
         done = subprocess.run([program, *words], input="", capture_output=True, text=True, check=False)
@@ -331,7 +338,7 @@ def helps(program, _):
     version = subprocess.run([program, "--version"], capture_output=True, text=True, check=False)
     if (version.returncode, version.stdout, version.stderr) != (0, "blobctl 0.4.2\n", ""):
         return f"helps: {version}"
-    commands = ["ls", "log", "cat", "tree", "dot", "stat", "fsck", "copy", "export-db", "put", "root", "drop",
+    commands = ["ls", "log", "diff", "cat", "tree", "dot", "stat", "fsck", "copy", "export-db", "put", "root", "drop",
                 "gc", "import-old", "serve", "texts", "cache"]
     for words in (["help"], ["--help"], ["-h"], *(["help", name] for name in commands), ["a.blobs", "ls", "--help"]):
         done = subprocess.run([program, *words], capture_output=True, text=True, check=False)
@@ -374,10 +381,11 @@ def main():
         tests = [
             (kills, rounds), (collecting.kills, rounds), (collecting.race, seconds), (collecting.keeps,),
             (beside, seconds), (damages.opens,), (damages.flaws,), (damages.flaws_under,), (damages.each_byte,),
-            (damages.each_length,),
-            (access.rights,), (access.links,), (access.names,), (databases.imports,), (databases.exports,),
+            (damages.each_length,), (access.rights,), (access.links,), (access.outputs,), (access.names,),
+            (databases.imports,), (databases.exports,),
             (copies,), (size,), (full_disk,), (texts,), (statuses,), (helps,), (pipes,), (plainly.stored_run,),
-            (plainly.drawn_lines,), (plainly.commands,), (plainly.kept,), (power.power, rounds // 2),
+            (plainly.drawn_lines,), (plainly.commands,), (plainly.kept,), (comparing.differences,),
+            (comparing.reads_what_differs,), (comparing.documents,), (holding.second,), (power.power, rounds // 2),
             (refusing.refusals, sources),
         ]
         faults = [test(program, folder, *words) for test, *words in tests]

@@ -72,7 +72,7 @@ CAUSES = {
 }
 NOBODY = 65534
 # What `fsck` says of bytes that don't count.
-TAIL = re.compile(r"(\d+) bytes behind the last flush say nothing")
+TAIL = re.compile(r"(\d+) bytes behind the last flush are ignored")
 
 
 def variants(file, name):

@@ -170,6 +170,48 @@ class PlainTool:
                 lines += [f"  {box} [shape=box];\n", f'  {box} -> "{key}";\n']
         return "".join([*lines, "}\n"])
 
+    def alone(self, first, second):
+        """The keys that the first of two keys reaches and the second doesn't, and the other way round, in order."""
+        sets = [self.reached_there(key) for key in (first, second)]
+        return sorted(sets[0] - sets[1]), sorted(sets[1] - sets[0])
+
+    def compare(self, words):
+        """What `diff --exact` finds between what two words name."""
+        keys = []
+        for word in words:
+            keys.append(self.find(word))
+            self.fetch(keys[-1])
+        return self.alone(*keys)
+
+    def diff(self, *words):
+        """The lines of a difference."""
+        line = lambda key: self.line(key) if key in self.blobs else f"{key} missing\n"
+        return "".join(f"{sign} {line(key)}" for sign, keys in zip("-+", self.compare(words)) for key in keys)
+
+    def sizes(self, key):
+        """What a document in JSON tells of a key."""
+        if key not in self.blobs:
+            return {"key": key, "missing": True}
+        data, children = self.blobs[key]
+        return {"key": key, "bytes": len(data), "children": len(children)}
+
+    def document(self, word, *words):
+        """The document in JSON with which a command that looks answers, as Python reads it."""
+        if word == "diff":
+            return dict(zip(("first", "second"), ([self.sizes(it) for it in keys] for keys in self.compare(words))))
+        if word == "log":
+            self.log(*words)
+            versions = self.versions[words[0]]
+            return [{"version": f"{words[0]}~{at}", "key": key} for at, key in enumerate(versions)]
+        if word == "stat":
+            total = sum(len(data) for data, _ in self.blobs.values())
+            return {"blobs": len(self.blobs), "bytes": total, "names": len(self.names)}
+        if words == ("--all",):
+            return [self.sizes(key) for key in sorted(self.blobs)]
+        if words:
+            return [self.sizes(key) for key in self.fetch(self.find(*words))[1]]
+        return [{"name": name, "key": key, "versions": len(self.versions[name])} for name, key in self.roots()]
+
     def stat(self):
         """The counts."""
         total = sum(len(data) for data, _ in self.blobs.values())
@@ -241,8 +283,8 @@ class PlainTool:
                 return alone[word]()
             if word in behind and " " in line.rstrip():
                 return behind[word](rest)
-            if word == "root" and " " in rest:
-                return self.root(first, second)
+            if word in ("root", "diff") and " " in rest:
+                return (self.root if word == "root" else self.diff)(first, second)
         except Refused as refused:
             return f"error: {refused}\n"
         return "bad line\n"

@@ -187,7 +187,7 @@ def made_files(run, program):
     """Files of blobs that are made on purpose: lengths that no file has, and rows that ask for what isn't there."""
     key, head, damaged = "01" * 16, plain_file.HEADER + b"\1", ("", "blobctl: made.blobs: the file is damaged\n", 3)
     # The three words of a batch's head are there, and nothing of what they announce.
-    cut = ("24 bytes behind the last flush say nothing\n0 blobs, 0 flaws\n", "", 0)
+    cut = ("24 bytes behind the last flush are ignored\n0 blobs, 0 flaws\n", "", 0)
     with_rows = lambda rows: head + struct.pack("<QQQ", 0, len(rows), plain_file.sum_of(rows)) + rows
     many = plain_file.file_of(plain_file.batch([(f"{number:032x}", 0, b"") for number in range(1, 20_000)]))
     names = plain_file.file_of(plain_file.batch([], [(name, key) for name in collide.keys(1_000)]))

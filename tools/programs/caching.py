@@ -71,13 +71,33 @@ def shared(program, tool, work, store):
     return both[1].run()
 
 
+def kill_session(number):
+    """Kills each process of a session, until none is left: ninja gives its commands groups of their own."""
+    while left := [it for it in pathlib.Path("/proc").glob("[0-9]*") if session_of(it) == number]:
+        for process in left:
+            try:
+                os.kill(int(process.name), signal.SIGKILL)
+            except ProcessLookupError:
+                pass
+        time.sleep(0.01)
+
+
+def session_of(process):
+    """The session of a process that still runs, by its folder in /proc, or None."""
+    try:
+        state, _, _, session = (process / "stat").read_text(encoding="utf-8").rpartition(")")[2].split()[:4]
+    except (FileNotFoundError, ProcessLookupError):
+        return None
+    return None if state == "Z" else int(session)
+
+
 def killed(build):
     """Kills a build in the middle: how many commands it had run, and how many the next one runs."""
     building = build.begin("0.2")
     log = build.folder / "ran.log"
     while building.poll() is None and not (log.exists() and len(log.read_text(encoding="utf-8").split()) > 4):
         time.sleep(0.01)
-    os.killpg(building.pid, signal.SIGKILL)
+    kill_session(building.pid)
     building.communicate(timeout=120)
     before = len(log.read_text(encoding="utf-8").split())
     log.unlink()
@@ -127,8 +147,7 @@ def trimmed(program, store):
         return f"trim: {told}"
     for number in range(20):
         status = f"blobctl: kept status 1\n" if number % 2 else ""
-        miss = (1, "", f"blobctl: {store}: the cache has no such entry\n")
-        wanted = miss if number < 11 else (0, bytes_of(number).decode(), status)
+        wanted = (1, "", "") if number < 11 else (0, bytes_of(number).decode(), status)
         if (found := asked(program, store, "get", f"{number:02X}")) != wanted:
             return f"trim: entry {number} is {found} in place of {wanted}"
     if store.stat().st_size > size * 0.6:

@@ -116,8 +116,10 @@ def graph(program, work):
 
 
 def blobctl(program, work):
-    """Builds with a cache under make, and under ninja where it is there."""
+    """Builds with a cache under make and under ninja; one that isn't there is left out, and that is told."""
     tools = [tool for tool in caching.TOOLS if shutil.which(tool)]
+    for tool in set(caching.TOOLS).difference(tools):
+        print(f"blobctl: no builds under {tool}, which isn't there", flush=True)
     for tool in tools:
         if fault := caching.fault_of(program, tool, work):
             sys.exit(f"{tool}: {fault}")

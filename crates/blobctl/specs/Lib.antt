@@ -2,3 +2,4 @@ pub mod Digits
 pub mod Entries
 pub mod Kept
 pub mod Shown
+pub mod Spelled

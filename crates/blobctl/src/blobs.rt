@@ -65,7 +65,7 @@ pub trait Blobs: Drop {
     ) -> Result<Vec<Flaw>, Error>
         ensures stays { Stays (view self.old) (view self.new) };
 
-    /// Counts the bytes behind the last flush, which say nothing.
+    /// Counts the bytes behind the last flush, which are ignored.
     fn count_tail(&mut self) -> Result<u64, Error>
         ensures stays { Stays (view self.old) (view self.new) };
 

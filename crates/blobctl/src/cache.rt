@@ -13,7 +13,9 @@ ghost use Rattle.std.specs.{
 };
 
 use crate::blobs::Blobs;
+use crate::command::Format;
 use crate::entry::{EntryFacts, read_entry, write_entry};
+use crate::json::entries_as_json;
 use crate::refusal::Refusal;
 use pagable_core::PagableData;
 use pagable_flavors::Error;
@@ -152,12 +154,19 @@ fn total(entries: &[CacheEntry]) -> u64 {
 /// # Errors
 ///
 /// - as a call on the file fails.
-pub fn count_entries<B: Blobs>(alloc: Global, blobs: &mut B) -> Result<String, Error>
+pub fn count_entries<B: Blobs>(
+    alloc: Global,
+    blobs: &mut B,
+    format: Format,
+) -> Result<String, Error>
     ensures stays { Stays (B.view blobs.old) (B.view blobs.new) }
 {
     let entries = list_entries(alloc, blobs)?;
     let (count, bytes) = (entries.len(), total(entries.as_slice()));
-    Ok(format!(in alloc; "{count} entries, {bytes} bytes\n")?)
+    match format {
+        Format::Lines => Ok(format!(in alloc; "{count} entries, {bytes} bytes\n")?),
+        Format::Json => Ok(entries_as_json(alloc, count, bytes)?),
+    }
 }
 
 /// Drops the entries that were put first, until the contents of the others have at most `most` bytes.

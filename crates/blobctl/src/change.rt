@@ -29,7 +29,7 @@ fn bytes_of_input(rt: &HostRuntime) -> Result<Vec<u8>, Refusal> {
         Ok(_) => Ok(bytes),
         Err(error) => {
             let name = String::from_str(rt.alloc(), "standard input")?;
-            Err(Refusal::Input(name, error))
+            Err(Refusal::Other(name, error))
         }
     }
 }
@@ -38,7 +38,7 @@ fn bytes_of_input(rt: &HostRuntime) -> Result<Vec<u8>, Refusal> {
 fn bytes_of_file(rt: &HostRuntime, path: &str) -> Result<Vec<u8>, Refusal> {
     match fs::read(rt, path) {
         Ok(bytes) => Ok(bytes),
-        Err(error) => Err(Refusal::Input(String::from_str(rt.alloc(), path)?, error)),
+        Err(error) => Err(Refusal::Other(String::from_str(rt.alloc(), path)?, error)),
     }
 }
 
@@ -46,7 +46,7 @@ fn bytes_of_file(rt: &HostRuntime, path: &str) -> Result<Vec<u8>, Refusal> {
 ///
 /// # Errors
 ///
-/// - `Input` if standard input or a file can't be read.
+/// - `Other` if standard input or a file can't be read.
 /// - `BadHex` if a word isn't hex.
 pub fn read_source(rt: &HostRuntime, source: Source<'_>) -> Result<Vec<u8>, Refusal> {
     match source {

@@ -99,12 +99,21 @@ pub fn real_path(rt: &HostRuntime, path: &str) -> Result<PathBuf, Refusal> {
     Ok(fs::canonicalize(rt, path)?)
 }
 
+/// Makes the empty file that is to take the place of FILE. Fails with `LeftOver` if something has its name:
+/// a `gc` at work would have FILE locked, so one that was killed has left it, or it is another file.
+fn make_new(rt: &HostRuntime, path: &str) -> Result<(), Refusal> {
+    match make_file(rt, path, 0o600) {
+        Err(Refusal::Taken(path)) => Err(Refusal::LeftOver(path)),
+        other => other,
+    }
+}
+
 /// Drops all blobs that none of so many last versions of a root of the file at a path reaches, and says
 /// how many are kept. The path has no link in it, and `blobs` is that file, open to be written.
 ///
 /// # Errors
 ///
-/// - `Taken` if something has the name FILE.new.
+/// - `LeftOver` if something has the name FILE.new.
 /// - `HasOtherNames` if FILE has several names.
 /// - `Blobs` if a call on either file fails, `File` if the new one can't be opened, `System` if it
 ///   can't be made, given FILE's access or moved: the file has what it had, and FILE.new is gone, or
@@ -119,7 +128,7 @@ pub fn collect_garbage<B: BlobsInFile>(
     let path = path.as_str();
     let facts = find_facts(rt, path)?;
     let new = format!(in rt.alloc(); "{path}.new")?;
-    make_file(rt, new.as_str(), 0o600)?;
+    make_new(rt, new.as_str())?;
     match fill_and_replace(rt, blobs, path, &facts, new.as_str(), keep) {
         Ok(count) => Ok(format!(in rt.alloc(); "{count} blobs kept\n")?),
         Err(refusal) => {

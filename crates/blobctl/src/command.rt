@@ -11,14 +11,34 @@ pub enum Listing<'a> {
     Children(&'a str),
 }
 
+/// How an answer is written.
+#[derive(Clone, Copy)]
+pub enum Format {
+    /// As lines for people.
+    Lines,
+    /// As a document in JSON.
+    Json,
+}
+
+/// The words of two roots that `diff` compares.
+#[derive(Clone, Copy)]
+pub struct Comparison<'a> {
+    pub first: &'a str,
+    pub second: &'a str,
+    /// Whether what both share is read too.
+    pub is_exact: bool,
+}
+
 /// A command that shows what a file has, and writes no byte to it. A `&str` that names a blob is
 /// a key, its first digits, a root's name, or as `main~2` a version of it.
 #[derive(Drop)]
 pub enum Look<'a> {
     /// `ls`: lists roots or blobs.
-    List(Listing<'a>),
+    List(Listing<'a>, Format),
     /// `log`: lists the versions of the root of this name.
-    Log(&'a str),
+    Log(&'a str, Format),
+    /// `diff`: lists the blobs that one of two roots reaches and the other doesn't.
+    Diff(Comparison<'a>, Format),
     /// `cat`: writes the bytes of a blob.
     Cat(&'a str),
     /// `tree`: shows what a blob reaches, below each blob its children.
@@ -26,7 +46,7 @@ pub enum Look<'a> {
     /// `dot`: shows what a blob reaches as a graph in the language of Graphviz.
     Dot(&'a str),
     /// `stat`: counts the blobs, their bytes, and the names.
-    Stat,
+    Stat(Format),
     /// `fsck`: tests the whole file, or what the root of a name reaches.
     Fsck(Option<&'a str>),
     /// `copy`: copies into the file of a path what the roots of these names reach, or of all.
@@ -35,7 +55,7 @@ pub enum Look<'a> {
     /// standard output.
     CacheGet(&'a str, Option<&'a str>),
     /// `cache stat`: counts the entries of the cache.
-    CacheStat,
+    CacheStat(Format),
     /// `export-db`: writes a database that SQLite reads, at a path.
     ExportDb(&'a str),
 }

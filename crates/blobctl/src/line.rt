@@ -1,6 +1,6 @@
 //! The lines that `serve` answers: how they are read, and what they ask.
 
-use crate::command::{Change, LineCommand, Listing, Look, Source};
+use crate::command::{Change, Comparison, Format, LineCommand, Listing, Look, Source};
 use std::alloc::{AllocError, Global};
 use std::io;
 use std::io::{BufRead, Read};
@@ -44,8 +44,8 @@ pub fn next_line<R: BufRead>(reader: &mut R, line: &mut Vec<u8>) -> io::Result<F
 /// Reads a line that is one word, or returns None.
 fn parse_word(word: &str) -> Option<LineCommand<'_>> {
     match word {
-        "stat" => Some(LineCommand::Look(Look::Stat)),
-        "ls" => Some(LineCommand::Look(Look::List(Listing::Roots))),
+        "stat" => Some(LineCommand::Look(Look::Stat(Format::Lines))),
+        "ls" => Some(LineCommand::Look(Look::List(Listing::Roots, Format::Lines))),
         "fsck" => Some(LineCommand::Look(Look::Fsck(None))),
         "flush" => Some(LineCommand::Flush),
         _ => None,
@@ -68,8 +68,8 @@ fn parse_rest<'a>(
     rest: &'a str,
 ) -> Result<Option<LineCommand<'a>>, AllocError> {
     let look = match word {
-        "ls" => Look::List(parse_listing(rest)),
-        "log" => Look::Log(rest),
+        "ls" => Look::List(parse_listing(rest), Format::Lines),
+        "log" => Look::Log(rest, Format::Lines),
         "tree" => Look::Tree(rest),
         "dot" => Look::Dot(rest),
         "fsck" => Look::Fsck(Some(rest)),
@@ -78,6 +78,7 @@ fn parse_rest<'a>(
         "drop" => return Ok(Some(LineCommand::Change(Change::DropRoot(rest)))),
         "put" => return Ok(Some(LineCommand::Change(parse_put(alloc, rest)?))),
         "root" => return Ok(parse_root(rest)),
+        "diff" => return Ok(parse_diff(rest)),
         _ => return Ok(None),
     };
     Ok(Some(LineCommand::Look(look)))
@@ -99,6 +100,17 @@ fn parse_put<'a>(alloc: Global, words: &'a str) -> Result<Change<'a>, AllocError
 fn parse_root(words: &str) -> Option<LineCommand<'_>> {
     let (name, word) = words.split_once(' ')?;
     Some(LineCommand::Change(Change::SetRoot(name, word)))
+}
+
+/// Reads the words of two blobs, or returns None.
+fn parse_diff(words: &str) -> Option<LineCommand<'_>> {
+    let (first, second) = words.split_once(' ')?;
+    let comparison = Comparison {
+        first,
+        second,
+        is_exact: false,
+    };
+    Some(LineCommand::Look(Look::Diff(comparison, Format::Lines)))
 }
 
 /// Reads what a line asks. Returns None for a line that is no command. One space separates words; spaces

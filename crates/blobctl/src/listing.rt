@@ -3,7 +3,9 @@
 ghost use Rattle.blobctl.specs.Shown.{Stays};
 
 use crate::blobs::Blobs;
+use crate::command::Format;
 use crate::find::find_key;
+use crate::json::{blobs_as_json, references_as_json, roots_as_json};
 use crate::refusal::Refusal;
 use crate::versions::{count_versions, list_changes};
 use pagable_file::ListedBlob;
@@ -19,11 +21,11 @@ pub struct Root {
     pub versions: u64,
 }
 
-/// A child of a blob, with its sizes unless it is missing.
+/// A key to which a blob refers, with its blob's sizes unless that is missing.
 #[derive(Drop)]
-struct Child {
-    key: DataKey,
-    blob: Option<ListedBlob>,
+pub struct Reference {
+    pub key: DataKey,
+    pub blob: Option<ListedBlob>,
 }
 
 /// Lists the names that stand for keys, in the order of their bytes.
@@ -81,7 +83,11 @@ fn sizes_of<B: Blobs>(
 }
 
 /// Lists the children of the blob that a word names, in their order.
-fn list_children<B: Blobs>(alloc: Global, blobs: &mut B, word: &str) -> Result<Vec<Child>, Refusal>
+fn list_children<B: Blobs>(
+    alloc: Global,
+    blobs: &mut B,
+    word: &str,
+) -> Result<Vec<Reference>, Refusal>
     ensures stays { Stays (B.view blobs.old) (B.view blobs.new) }
 {
     let key = find_key(alloc, blobs, word)?;
@@ -89,7 +95,7 @@ fn list_children<B: Blobs>(alloc: Global, blobs: &mut B, word: &str) -> Result<V
     let mut children = Vec::new(alloc);
     for child in &parent.arcs {
         let blob = sizes_of(alloc, blobs, *child)?;
-        children.push(Child { key: *child, blob })?;
+        children.push(Reference { key: *child, blob })?;
     }
     Ok(children)
 }
@@ -115,14 +121,23 @@ fn roots_as_lines(alloc: Global, roots: &[Root]) -> Result<String, AllocError> {
     Ok(text)
 }
 
+/// Appends a line with a key and its blob's sizes, or that this is missing.
+///
+/// # Errors
+///
+/// - if memory is refused.
+pub fn write_reference(text: &mut String, reference: &Reference) -> Result<(), AllocError> {
+    match &reference.blob {
+        Some(blob) => write_blob(text, blob),
+        None => writeln!(text, "{} missing", reference.key),
+    }
+}
+
 /// Writes children, each on a line.
-fn children_as_lines(alloc: Global, children: &[Child]) -> Result<String, AllocError> {
+fn children_as_lines(alloc: Global, children: &[Reference]) -> Result<String, AllocError> {
     let mut text = String::new(alloc);
     for child in children {
-        match &child.blob {
-            Some(blob) => write_blob(&mut text, blob)?,
-            None => writeln!(text, "{} missing", child.key)?,
-        }
+        write_reference(&mut text, child)?;
     }
     Ok(text)
 }
@@ -141,11 +156,14 @@ fn blobs_as_lines(alloc: Global, all: &[ListedBlob]) -> Result<String, AllocErro
 /// # Errors
 ///
 /// - as a call on the file fails, or for want of memory.
-pub fn show_roots<B: Blobs>(alloc: Global, blobs: &mut B) -> Result<String, Error>
+pub fn show_roots<B: Blobs>(alloc: Global, blobs: &mut B, format: Format) -> Result<String, Error>
     ensures stays { Stays (B.view blobs.old) (B.view blobs.new) }
 {
     let roots = list_roots(alloc, blobs)?;
-    Ok(roots_as_lines(alloc, roots.as_slice())?)
+    match format {
+        Format::Lines => Ok(roots_as_lines(alloc, roots.as_slice())?),
+        Format::Json => Ok(roots_as_json(alloc, roots.as_slice())?),
+    }
 }
 
 /// Shows all blobs, each with its sizes.
@@ -153,11 +171,14 @@ pub fn show_roots<B: Blobs>(alloc: Global, blobs: &mut B) -> Result<String, Erro
 /// # Errors
 ///
 /// - as `show_roots`.
-pub fn show_blobs<B: Blobs>(alloc: Global, blobs: &mut B) -> Result<String, Error>
+pub fn show_blobs<B: Blobs>(alloc: Global, blobs: &mut B, format: Format) -> Result<String, Error>
     ensures stays { Stays (B.view blobs.old) (B.view blobs.new) }
 {
     let all = list_blobs(alloc, blobs)?;
-    Ok(blobs_as_lines(alloc, all.as_slice())?)
+    match format {
+        Format::Lines => Ok(blobs_as_lines(alloc, all.as_slice())?),
+        Format::Json => Ok(blobs_as_json(alloc, all.as_slice())?),
+    }
 }
 
 /// Shows the children of the blob that a word names, in their order, each with its sizes or as missing.
@@ -165,9 +186,17 @@ pub fn show_blobs<B: Blobs>(alloc: Global, blobs: &mut B) -> Result<String, Erro
 /// # Errors
 ///
 /// - as `find_key`, or as a fetch fails.
-pub fn show_children<B: Blobs>(alloc: Global, blobs: &mut B, word: &str) -> Result<String, Refusal>
+pub fn show_children<B: Blobs>(
+    alloc: Global,
+    blobs: &mut B,
+    word: &str,
+    format: Format,
+) -> Result<String, Refusal>
     ensures stays { Stays (B.view blobs.old) (B.view blobs.new) }
 {
     let children = list_children(alloc, blobs, word)?;
-    Ok(children_as_lines(alloc, children.as_slice())?)
+    match format {
+        Format::Lines => Ok(children_as_lines(alloc, children.as_slice())?),
+        Format::Json => Ok(references_as_json(alloc, children.as_slice())?),
+    }
 }

@@ -4,11 +4,13 @@ ghost use Rattle.blobctl.specs.Shown.{Stays};
 
 use crate::blobs::{Blobs, BlobsInFile};
 use crate::cache::{count_entries, find_entry};
-use crate::command::{Listing, Look};
+use crate::command::{Comparison, Format, Listing, Look};
 use crate::copy::copy_into;
+use crate::diff::{compare, difference_as_lines};
 use crate::export::export_database;
 use crate::find::find_key;
 use crate::graph::show_graph;
+use crate::json::{counts_as_json, difference_as_json};
 use crate::listing::{show_blobs, show_children, show_roots};
 use crate::progress::ProgressPrinter;
 use crate::refusal::Refusal;
@@ -27,6 +29,8 @@ pub enum Answer {
     Lines(String),
     /// Lines, of which some name flaws.
     Flaws(String),
+    /// Lines or a document that tell how two roots differ.
+    Differences(String),
     /// The bytes of a blob.
     Blob(Arc<PagableData>),
     /// An entry of the cache, and the path of the file to which it is written, if it isn't printed.
@@ -40,23 +44,31 @@ fn total(all: &[ListedBlob]) -> u64 {
 }
 
 /// Counts the blobs, their bytes, and the names that stand for keys.
-fn count<B: Blobs>(alloc: Global, blobs: &mut B) -> Result<String, Error>
+fn count<B: Blobs>(alloc: Global, blobs: &mut B, format: Format) -> Result<String, Error>
     ensures stays { Stays (B.view blobs.old) (B.view blobs.new) }
 {
     let all = blobs.list(alloc)?;
     let names = blobs.root_names(alloc)?.len();
     let (count, bytes) = (all.len(), total(all.as_slice()));
-    Ok(format!(in alloc; "{count} blobs, {bytes} bytes, {names} names\n")?)
+    match format {
+        Format::Lines => Ok(format!(in alloc; "{count} blobs, {bytes} bytes, {names} names\n")?),
+        Format::Json => Ok(counts_as_json(alloc, count, bytes, names)?),
+    }
 }
 
 /// Shows what `ls` lists.
-fn list<B: Blobs>(alloc: Global, blobs: &mut B, listing: Listing<'_>) -> Result<String, Refusal>
+fn list<B: Blobs>(
+    alloc: Global,
+    blobs: &mut B,
+    listing: Listing<'_>,
+    format: Format,
+) -> Result<String, Refusal>
     ensures stays { Stays (B.view blobs.old) (B.view blobs.new) }
 {
     match listing {
-        Listing::Roots => Ok(show_roots(alloc, blobs)?),
-        Listing::Blobs => Ok(show_blobs(alloc, blobs)?),
-        Listing::Children(word) => show_children(alloc, blobs, word),
+        Listing::Roots => Ok(show_roots(alloc, blobs, format)?),
+        Listing::Blobs => Ok(show_blobs(alloc, blobs, format)?),
+        Listing::Children(word) => show_children(alloc, blobs, word, format),
     }
 }
 
@@ -90,7 +102,7 @@ fn answer_flaws(
         write_flaw(&mut text, flaw)?;
     }
     if tail > 0 {
-        writeln!(text, "{tail} bytes behind the last flush say nothing")?;
+        writeln!(text, "{tail} bytes behind the last flush are ignored")?;
     }
     writeln!(text, "{blobs} blobs, {} flaws", flaws.len())?;
     if flaws.is_empty() {
@@ -99,7 +111,7 @@ fn answer_flaws(
     Ok(Answer::Flaws(text))
 }
 
-/// Names each flaw of the file, and says how many bytes behind its last flush say nothing, and how many
+/// Names each flaw of the file, and says how many bytes behind its last flush are ignored, and how many
 /// blobs and flaws there are.
 fn test_file<B: Blobs>(rt: &HostRuntime, blobs: &mut B) -> Result<Answer, Error>
     ensures stays { Stays (B.view blobs.old) (B.view blobs.new) }
@@ -150,6 +162,26 @@ fn graph<B: Blobs>(alloc: Global, blobs: &mut B, word: &str) -> Result<String, R
     show_graph(alloc, blobs, key)
 }
 
+/// Shows the blobs that one of two roots reaches and the other one doesn't.
+fn answer_comparison<B: Blobs>(
+    alloc: Global,
+    blobs: &mut B,
+    words: Comparison<'_>,
+    format: Format,
+) -> Result<Answer, Refusal>
+    ensures stays { Stays (B.view blobs.old) (B.view blobs.new) }
+{
+    let difference = compare(alloc, blobs, words)?;
+    let text = match format {
+        Format::Lines => difference_as_lines(alloc, &difference)?,
+        Format::Json => difference_as_json(alloc, &difference)?,
+    };
+    if difference.is_empty() {
+        return Ok(Answer::Lines(text));
+    }
+    Ok(Answer::Differences(text))
+}
+
 /// Finds the entry of a digest, which is written to the file of a path, or printed.
 fn get_entry<B: Blobs>(
     alloc: Global,
@@ -185,12 +217,13 @@ pub fn answer_look<B: BlobsInFile>(
 {
     let alloc = rt.alloc();
     match look {
-        Look::List(listing) => Ok(Answer::Lines(list(alloc, blobs, listing)?)),
-        Look::Log(name) => Ok(Answer::Lines(show_log(alloc, blobs, name)?)),
+        Look::List(listing, format) => Ok(Answer::Lines(list(alloc, blobs, listing, format)?)),
+        Look::Log(name, format) => Ok(Answer::Lines(show_log(alloc, blobs, name, format)?)),
+        Look::Diff(words, format) => answer_comparison(alloc, blobs, words, format),
         Look::Cat(word) => Ok(Answer::Blob(fetch_named(alloc, blobs, word)?)),
         Look::Tree(word) => Ok(Answer::Lines(tree(alloc, blobs, word)?)),
         Look::Dot(word) => Ok(Answer::Lines(graph(alloc, blobs, word)?)),
-        Look::Stat => Ok(Answer::Lines(count(alloc, blobs)?)),
+        Look::Stat(format) => Ok(Answer::Lines(count(alloc, blobs, format)?)),
         Look::Fsck(None) => Ok(test_file(rt, blobs)?),
         Look::Fsck(Some(name)) => test_root(rt, blobs, name),
         Look::Copy(path, roots) => {
@@ -198,7 +231,7 @@ pub fn answer_look<B: BlobsInFile>(
             Ok(Answer::Lines(text))
         }
         Look::CacheGet(digest, path) => get_entry(alloc, blobs, digest, path),
-        Look::CacheStat => Ok(Answer::Lines(count_entries(alloc, blobs)?)),
+        Look::CacheStat(format) => Ok(Answer::Lines(count_entries(alloc, blobs, format)?)),
         Look::ExportDb(path) => Ok(Answer::Lines(export_database(rt, blobs, path)?)),
     }
 }

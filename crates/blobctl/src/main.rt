@@ -3,7 +3,8 @@
 //! about texts that the file keeps under names. `blobctl help` lists the commands.
 //!
 //! What a command shows stands on standard output, and why it fails on standard error, behind the
-//! file's path. The status is 0, 1 for a flaw or what isn't there, 2 for a wrong call, 3 if a file fails.
+//! file's path. The status is 0, 1 for a flaw, a difference or what isn't there, 2 for a wrong call, 3 if a
+//! file fails.
 #![tactic(auto)]
 
 mod arguments;
@@ -14,11 +15,13 @@ mod change;
 mod collect;
 mod command;
 mod copy;
+mod diff;
 mod entry;
 mod export;
 mod find;
 mod graph;
 mod import;
+mod json;
 mod keep;
 mod line;
 mod listing;
@@ -33,6 +36,7 @@ mod texts;
 mod tree;
 mod usage;
 mod versions;
+mod words;
 
 use crate::arguments::{Request, parse};
 use crate::command::Command;
@@ -76,14 +80,14 @@ fn write_out(rt: &HostRuntime, bytes: &[u8], path: Option<String>) -> Result<(),
     Ok(())
 }
 
-/// Prints what a command answers, and returns the status: 1 if it names a flaw.
+/// Prints what a command answers, and returns the status: 1 if it names a flaw or a difference.
 fn print_answer(rt: &HostRuntime, answer: Answer) -> Result<u8, Refusal> {
     match answer {
         Answer::Lines(text) => {
             print(rt, text.as_str())?;
             Ok(0)
         }
-        Answer::Flaws(text) => {
+        Answer::Flaws(text) | Answer::Differences(text) => {
             print(rt, text.as_str())?;
             Ok(1)
         }
@@ -113,11 +117,14 @@ fn serve_request<W: Wait>(
     }
 }
 
-/// Tells why a command over the file of a path fails, unless that is nobody's fault, and returns the
-/// status.
+/// Tells why a command over the file of a path fails, unless that is nobody's fault or the status tells
+/// it, and returns the status.
 fn tell(rt: &HostRuntime, path: &str, refusal: &Refusal) -> u8 {
     if refusal.is_broken_pipe() {
         return 0;
+    }
+    if refusal.is_miss() {
+        return refusal.status();
     }
     let _shown = eprintln!(rt; "blobctl: {}: {refusal}", path.escape_debug());
     refusal.status()
@@ -147,6 +154,10 @@ fn serve_arguments<W: Wait>(rt: &HostRuntime, waits: &W) -> io::Result<u8> {
 fn main(rt: HostRuntime) -> ExitCode {
     match serve_arguments(&rt, &rt) {
         Ok(status) => ExitCode::from(status),
+        Err(error) if error.kind() == io::ErrorKind::InvalidData => {
+            let _shown = eprintln!(rt; "blobctl: an argument isn't UTF-8");
+            ExitCode::from(2)
+        }
         Err(error) => {
             let _shown = eprintln!(rt; "blobctl: {error}");
             ExitCode::from(3)

@@ -1,6 +1,8 @@
 //! Files that a command makes anew, and what has to be on the disk for them.
 
 use crate::refusal::Refusal;
+use blob_host::facts_at;
+use pagable_file::OpenError;
 use std::fs::{File, OpenOptions};
 use std::os::unix::fs::OpenOptionsExt;
 use std::path::PathBuf;
@@ -60,14 +62,35 @@ pub fn nanoseconds_now(rt: &HostRuntime) -> io::Result<u64> {
     }
 }
 
-/// Writes bytes to a file beside a path, called by the time, which then gets the path's name. A reader
-/// sees the old file or the whole new one.
+/// Writes bytes to the file of a path, or to the one to which a link there leads. A reader sees the old
+/// file or the whole new one. A pipe or a device gets the bytes itself.
 ///
 /// # Errors
 ///
-/// - `Taken` if something has the new file's name.
-/// - `System` if the file can't be made, written or moved: it isn't left, and the old one stays.
+/// - `Taken` if something has the name of the new file that is written first.
+/// - `OtherFile` if a folder of the path isn't there or may not be searched, or links lead round.
+/// - `Other` if the bytes can't be written: what was there stays, but what a pipe or a device got.
 pub fn write_file(rt: &HostRuntime, path: &str, bytes: &[u8]) -> Result<(), Refusal> {
+    match write_over(rt, path, bytes) {
+        Err(Refusal::System(error)) => {
+            Err(Refusal::Other(String::from_str(rt.alloc(), path)?, error))
+        }
+        other => other,
+    }
+}
+
+/// Writes bytes to the file of a path, as what is there asks for.
+fn write_over(rt: &HostRuntime, path: &str, bytes: &[u8]) -> Result<(), Refusal> {
+    match facts_at(rt, path).map_err(OpenError::from) {
+        Ok(None) => replace_file(rt, path, bytes),
+        Ok(Some(_)) => replace_file(rt, fs::canonicalize(rt, path)?.as_str(), bytes),
+        Err(OpenError::NotAFile) => Ok(fs::write(rt, path, bytes)?),
+        Err(error) => Err(Refusal::OtherFile(String::from_str(rt.alloc(), path)?, error)),
+    }
+}
+
+/// Writes bytes to a file beside a path, called by the time, which then gets the path's name.
+fn replace_file(rt: &HostRuntime, path: &str, bytes: &[u8]) -> Result<(), Refusal> {
     let time = nanoseconds_now(rt)?;
     let new = format!(in rt.alloc(); "{path}.{time}.new")?;
     make_file(rt, new.as_str(), 0o666)?;

@@ -33,12 +33,16 @@ pub enum Refusal {
     OtherFile(String, OpenError),
     /// A file couldn't be made, moved or removed.
     System(io::Error),
-    /// A file of this path couldn't be read.
-    Input(String, io::Error),
+    /// Another file, of this path, or standard input couldn't be read or written.
+    Other(String, io::Error),
     /// Standard output couldn't be written.
     Output(io::Error),
     /// A file has this path already, where a new one is to be made.
     Taken(String),
+    /// A file has this path already, under which `gc` makes the new file.
+    LeftOver(String),
+    /// The file that `copy` writes is the one that it reads.
+    SameFile,
     /// The file has so many names, and only one of them could name the new file.
     HasOtherNames(u64),
     /// A call on a database failed.
@@ -58,7 +62,11 @@ impl Refusal {
             | Refusal::NoRoot(_)
             | Refusal::Miss
             | Refusal::Blobs(Error::NoData(_)) => 1,
-            Refusal::EmptyName | Refusal::BadHex | Refusal::BadDigest | Refusal::BadSize => 2,
+            Refusal::EmptyName
+            | Refusal::BadHex
+            | Refusal::BadDigest
+            | Refusal::BadSize
+            | Refusal::SameFile => 2,
             _ => 3,
         }
     }
@@ -67,6 +75,14 @@ impl Refusal {
     pub fn is_broken_pipe(&self) -> bool {
         match self {
             Refusal::Output(error) => error.kind() == io::ErrorKind::BrokenPipe,
+            _ => false,
+        }
+    }
+
+    /// Returns whether the cache has no entry, which the status alone tells.
+    pub fn is_miss(&self) -> bool {
+        match self {
+            Refusal::Miss => true,
             _ => false,
         }
     }
@@ -127,13 +143,19 @@ impl fmt::Display for Refusal {
             Refusal::File(error) => write!(f, "{error}"),
             Refusal::OtherFile(path, error) => write!(f, "{}: {error}", path.escape_debug()),
             Refusal::System(error) => write!(f, "{error}"),
-            Refusal::Input(path, error) => write!(f, "{}: {error}", path.escape_debug()),
+            Refusal::Other(path, error) => write!(f, "{}: {error}", path.escape_debug()),
             Refusal::Output(error) => write!(f, "standard output: {error}"),
             Refusal::Taken(path) => write!(
                 f,
                 "{} is there already: remove it, or give it another name",
                 path.escape_debug()
             ),
+            Refusal::LeftOver(path) => write!(
+                f,
+                "{} is there already: remove it if a gc or trim was killed",
+                path.escape_debug()
+            ),
+            Refusal::SameFile => f.write_str("a file can't be copied to itself"),
             Refusal::HasOtherNames(count) => write!(
                 f,
                 "the file has {count} names, and the others would keep the old file"

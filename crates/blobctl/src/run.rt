@@ -9,12 +9,34 @@ use crate::import::import_database;
 use crate::look::{Answer, answer_look};
 use crate::refusal::Refusal;
 use crate::serve::serve_lines;
+use blob_host::facts_at;
 use pagable_file::OpenError;
 use std::fs;
+
+/// Returns whether two paths lead to one file.
+fn lead_to_one_file(rt: &HostRuntime, path: &str, other: &str) -> bool {
+    match (facts_at(rt, path), facts_at(rt, other)) {
+        (Ok(Some(file)), Ok(Some(other))) => {
+            file.device == other.device && file.inode == other.inode
+        }
+        _ => false,
+    }
+}
+
+/// Returns whether a command copies the file of a path to itself.
+fn copies_to_itself(rt: &HostRuntime, path: &str, look: &Look<'_>) -> bool {
+    match look {
+        Look::Copy(other, _) => lead_to_one_file(rt, path, other),
+        _ => false,
+    }
+}
 
 /// Opens a file to look at it, and answers a command that shows what it has. A cache that isn't there has
 /// no entry.
 fn look<B: BlobsInFile>(rt: &HostRuntime, path: &str, look: Look<'_>) -> Result<Answer, Refusal> {
+    if copies_to_itself(rt, path, &look) {
+        return Err(Refusal::SameFile);
+    }
     match (B::read(rt, path), look) {
         (Ok(mut blobs), look) => answer_look(rt, &mut blobs, look),
         (Err(OpenError::Missing), Look::CacheGet(_, _)) => Err(Refusal::Miss),

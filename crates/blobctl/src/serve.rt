@@ -16,7 +16,7 @@ fn answer<B: BlobsInFile>(
 ) -> Result<String, Refusal> {
     match command {
         LineCommand::Look(look) => match answer_look(rt, blobs, look)? {
-            Answer::Lines(text) | Answer::Flaws(text) => Ok(text),
+            Answer::Lines(text) | Answer::Flaws(text) | Answer::Differences(text) => Ok(text),
             Answer::Blob(_) | Answer::Entry(_, _) => Ok(String::new(rt.alloc())),
         },
         LineCommand::Change(change) => answer_change(rt, blobs, change),

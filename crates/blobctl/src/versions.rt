@@ -3,6 +3,8 @@
 ghost use Rattle.blobctl.specs.Shown.{Stays};
 
 use crate::blobs::Blobs;
+use crate::command::Format;
+use crate::json::versions_as_json;
 use crate::refusal::Refusal;
 use pagable_file::LoggedRoot;
 use pagable_flavors::{DataKey, Error};
@@ -127,14 +129,22 @@ impl<'a> VersionName<'a> {
 ///
 /// - `NoRoot` if the name was never set.
 /// - `Blobs` as a call on the file fails.
-pub fn show_log<B: Blobs>(alloc: Global, blobs: &mut B, name: &str) -> Result<String, Refusal>
+pub fn show_log<B: Blobs>(
+    alloc: Global,
+    blobs: &mut B,
+    name: &str,
+    format: Format,
+) -> Result<String, Refusal>
     ensures stays { Stays (B.view blobs.old) (B.view blobs.new) }
 {
     let versions = versions_of(alloc, blobs, name)?;
     if versions.is_empty() {
         return Err(Refusal::NoRoot(String::from_str(alloc, name)?));
     }
-    Ok(versions_as_lines(alloc, name, versions.as_slice())?)
+    match format {
+        Format::Lines => Ok(versions_as_lines(alloc, name, versions.as_slice())?),
+        Format::Json => Ok(versions_as_json(alloc, name, versions.as_slice())?),
+    }
 }
 
 /// Writes versions, each on a line.

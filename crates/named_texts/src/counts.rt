@@ -4,7 +4,7 @@ use crate::text::TextEnv;
 use crate::text_storage::TextStorage;
 use pagable::{DataKey, Error, KeyHash, Roots};
 use std::alloc::Global;
-use std::collections::HashSet;
+use std::collections::{BTreeSet, HashSet};
 use std::fmt;
 use std::sync::Wait;
 
@@ -79,7 +79,7 @@ pub fn count_roots<R: Wait, H: KeyHash, S: Roots<TextEnv<H>>>(
     rt: &R,
     alloc: Global,
     storage: &TextStorage<H, S>,
-    names: &[String],
+    names: &BTreeSet<String>,
 ) -> Result<Counts, Error> {
     let mut counting = RootCounter::new(alloc);
     for name in names {

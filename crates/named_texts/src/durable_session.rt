@@ -12,6 +12,7 @@ use crate::text_storage::TextStorage;
 use pagable::storage::handle::Storage;
 use pagable::{Env, Error, HandleNumber, KeyHash, Roots};
 use std::alloc::Global;
+use std::collections::BTreeSet;
 use std::sync::Wait;
 
 /// The type number of texts.
@@ -25,7 +26,7 @@ where
 {
     pub(crate) session: Session<'a, R, H, S>,
     // All names that may stand for keys.
-    roots: Vec<String>,
+    roots: BTreeSet<String>,
 }
 
 impl<'a, R: Wait, H: KeyHash, S: Roots<TextEnv<H>>> DurableSession<'a, R, H, S> {
@@ -46,7 +47,7 @@ impl<'a, R: Wait, H: KeyHash, S: Roots<TextEnv<H>>> DurableSession<'a, R, H, S> 
     where
         S: Drop,
     {
-        let roots = storage.root_names(alloc)?;
+        let roots = make_set(alloc, storage.root_names(alloc)?)?;
         let session = Session::over(rt, alloc, storage)?;
         Ok(DurableSession { session, roots })
     }
@@ -68,7 +69,7 @@ impl<'a, R: Wait, H: KeyHash, S: Roots<TextEnv<H>>> Session<'a, R, H, S> {
     fn run_durable(
         &mut self,
         alloc: Global,
-        roots: &mut Vec<String>,
+        roots: &mut BTreeSet<String>,
         command: DurableCommand<'_>,
     ) -> Result<Answer, Refusal> {
         let storage = &self.storage;
@@ -81,7 +82,7 @@ fn run<R: Wait, H: KeyHash, S: Roots<TextEnv<H>>>(
     rt: &R,
     alloc: Global,
     names: &mut Names,
-    roots: &mut Vec<String>,
+    roots: &mut BTreeSet<String>,
     storage: &TextStorage<H, S>,
     command: DurableCommand<'_>,
 ) -> Result<Answer, Refusal>
@@ -99,16 +100,25 @@ fn run<R: Wait, H: KeyHash, S: Roots<TextEnv<H>>>(
             Ok(Answer::Word("ok"))
         }
         DurableCommand::Stat => {
-            let counts = count_roots(rt, alloc, storage, roots.as_slice())?;
+            let counts = count_roots(rt, alloc, storage, roots)?;
             Ok(Answer::Counts(counts))
         }
     }
 }
 
+/// Makes a set of names.
+fn make_set(alloc: Global, names: Vec<String>) -> Result<BTreeSet<String>, Error> {
+    let mut set = BTreeSet::new(alloc);
+    for name in names {
+        set.insert(name)?;
+    }
+    Ok(set)
+}
+
 /// Adds a name to those that may stand for keys, unless it is among them.
-fn note_root(alloc: Global, roots: &mut Vec<String>, root: &str) -> Result<(), Error> {
-    if !roots.iter().any(|known| known.as_str() == root) {
-        roots.push(String::from_str(alloc, root)?)?;
+fn note_root(alloc: Global, roots: &mut BTreeSet<String>, root: &str) -> Result<(), Error> {
+    if !roots.contains(root) {
+        roots.insert(String::from_str(alloc, root)?)?;
     }
     Ok(())
 }
@@ -117,7 +127,7 @@ fn note_root(alloc: Global, roots: &mut Vec<String>, root: &str) -> Result<(), E
 fn save<R: Wait, H: KeyHash, S: Roots<TextEnv<H>>>(
     rt: &R,
     alloc: Global,
-    roots: &mut Vec<String>,
+    roots: &mut BTreeSet<String>,
     storage: &TextStorage<H, S>,
     handle: HandleNumber,
     root: &str,
