@@ -7,4 +7,4 @@ pub returns-in_err-fields-clause-reads : goal.returns-in_err-fields-clause-reads
 returns-in_err-fields-clause-reads g c =
     let q = c.in_err-fields.ensures.reads in
     read-err c.from_residual.ensures.1
-        (record { gives = q.gives; moves = q.moves; same_env = q.same_env; same_levels = q.same_levels }) (λ h. h) (λ h. h)
+    (record { gives = q.gives; moves = q.moves; same_env = q.same_env; same_levels = q.same_levels }) (λ h. h) (λ h. h)
