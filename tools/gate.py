@@ -6,8 +6,8 @@
 `rt ci` proves each crate and its tests, tries the must-fail edits, and runs each program. (What it passed on this
 machine it keeps by the check sums of all that it read, and proves again only what changed; with --anew it proves all.)
 Beside it run the tools of TOOLS, which test what no proof says, one after the other, each once there is memory for it.
-The tool on files of blobs takes the `blobctl` that `rt ci` built, and five wrong bodies, drawn by the commit's own hash,
-are tried once `rt ci` has ended.
+The tool on files of blobs takes the `blobctl` that `rt ci` built. Once `rt ci` has ended five wrong bodies are tried,
+which the commit's own hash draws.
 
 Lines of `rt ci` begin with the minutes and seconds since the start. Behind them stands what each tool said, and a table
 of times by crate and tool (tools/gate_times.py writes docs/TESTS.md's from it). The last line is 'N passed, M failed':
